@@ -1,20 +1,20 @@
 -- What is kept of clients suits their connections over all that a server does.
-use Rattle.std.proofs.Common.{◌≡◌, ℕ, ◌+◌, ◌<◌, ◌≤◌, suc, Bool, true, false, if◌then◌else◌, List, [], ◌∷◌, ◌++◌, length, drop, get_or, set, Option, Some, None, Result, Ok, Err, inl, inr, refl, sym, ap, ◌∙◌, subst, arith}
+use Rattle.std.proofs.Common.{◌≡◌, ℕ, ◌+◌, ◌<◌, ◌≤◌, suc, Bool, true, false, if◌then◌else◌, List, [], ◌∷◌, ◌++◌, length, get_or, set, Option, Some, None, Err, inl, inr, refl, sym, ap, ◌∙◌, subst, arith}
 use Rattle.std.specs.Global.{Vec}
-use Rattle.std.specs.Prelude.{◌⊎◌, IfSome, OnOk, is_err, is_some, option_map}
+use Rattle.std.specs.Prelude.{◌⊎◌, ◌-◌, IfSome, is_some, option_map}
 use Rattle.std.specs.List.{AllByRecursion, HoldsAt, remove}
 use Rattle.std.specs.Map.{lookup}
 use Rattle.std.specs.BTreeMap.{is_at}
 use Rattle.std.specs.Ordering.{nat_cmp}
 use Rattle.std.proofs.lemmas.Bool.{cases_eq, cases_lt, true≢false}
+use Rattle.std.proofs.lemmas.Grind.{get_or-set_at}
 use Rattle.std.proofs.lemmas.List.{drop_all, get_or_default, get_or-set_other, get_or-set_same}
-use Rattle.kapi_aggregation.specs.Members.{Has}
 use Rattle.kapi_core.proofs.Effects.{number_of}
 use Rattle.kapi_answer.specs.Watch.{PlainWatching}
 use Rattle.kapi_watch.specs.Watches.{later}
 use Rattle.kapi_core.specs.Fingerprints.{fingerprint_of_watch, fingerprint_on, fingerprint_some, is_among, is_concerned, watch_on}
 use Rattle.kapi_core.specs.Machine.{Link, Machine, link_at, step}
-use Rattle.kapi_core.specs.Refines.{Keeps as Same, Makes, Opens, Refines, RunsOut, TakesIn, sent_if, turned_if}
+use Rattle.kapi_core.specs.Refines.{Makes, Opens, Refines, RunsOut, TakesIn, sent_if, turned_if}
 use Rattle.kapi_core.specs.Running.{Running}
 use Rattle.kapi_core.specs.declared.event.Answer.TheVariants as answer
 use Rattle.kapi_core.specs.declared.event.ConnId.{ConnId}
@@ -27,6 +27,7 @@ use Rattle.kapi_core.specs.declared.event.Turned.{Turned}
 use Rattle.kapi_http.specs.declared.inbox.FeedError.{FeedError}
 use Rattle.kapi_http.specs.declared.inbox.FeedError.TheVariants as fed
 use Rattle.kapi_model.specs.declared.identity.Identity.{Identity}
+use Rattle.kapi_serve.specs.declared.awake.Awake.{Awake}
 use Rattle.kapi_serve.specs.declared.client.Client.{Client}
 use Rattle.kapi_serve.specs.declared.clients.Clients.{Clients}
 use Rattle.kapi_serve.specs.declared.client.Phase.{Phase}
@@ -38,11 +39,11 @@ use Rattle.kapi_serve.specs.Ports.{Report}
 use Rattle.kapi_serve.specs.Private.ServerStates.{Ends}
 use Rattle.kapi_serve.specs.Private.Pieces.{IsCounted, IsSent, joined, owed}
 use Rattle.kapi_serve.specs.Private.Progresses.{both}
-use Rattle.kapi_serve.specs.Private.ClientsMatch.{AllMatch, AreCalled, AreDue, AreRoused, Finishes, GoesOn, HasNoRequest, IsAwakeOrQuiet, IsNew, IsNumbered, IsQuiet, IsServed, Keeps, PassesBy, Rise, Stays, MatchesConnection, Tends, Waits, is_called}
+use Rattle.kapi_serve.specs.Private.ClientsMatch.{AllMatch, AreAsleep, AreCalled, AreRoused, Finishes, GoesOn, HasNoRequest, IsNew, IsNumbered, IsQuiet, IsServed, IsWithin, Keeps, PassesBy, RestBefore, Rise, Stays, MatchesConnection, Tends, Waits, is_called}
 use Rattle.kapi_serve.specs.Rests.{AreAtRest, Rests}
 use Rattle.kapi_serve.proofs.Connections.{answered_nothing, answered_same, closed_gone, fed_fingerprint, goes_both, goes_event, goes_none, gone_request, opened_fingerprint, opened_request, pumped_fingerprint, pumped_request, request_answered, served_gone, shown_gone, stays_both, stays_none, turn_stays, unfed_stays, unserved_stays}
 use Rattle.kapi_serve.proofs.Numbers.{opened_next}
-use Rattle.kapi_serve.proofs.Standing.{each_at, each_both, each_left, each_more, each_only, each_put, each_kept, each_set, each_to, has_at, has_inside, has_next, has_removed, remove_past, rise_left, rise_more, rise_set}
+use Rattle.kapi_serve.proofs.Standing.{asleep_came, asleep_left, asleep_more, asleep_set, each_at, each_by_place, each_left, each_more, each_put, each_set, each_to, rise_left, rise_less, rise_more, rise_set}
 
 -- ---- progress
 
@@ -102,8 +103,8 @@ counted_same p q same count few = let long : length (owed q) ≡ length (owed p)
 pub keeps_pending : (c : Client) (p : Pending) → (IsCounted c.pending → IsCounted p) → Keeps c (record c { pending = p })
 keeps_pending c p counted = record { id = refl; phase = refl; fed = refl; watching = refl; counted = counted }
 
-pub keeps_blocked : (c : Client) → Keeps c (record c { blocked = true })
-keeps_blocked c = record { id = refl; phase = refl; fed = refl; watching = refl; counted = λ h. h }
+pub keeps_blocked : (c : Client) (b : Bool) → Keeps c (record c { blocked = b })
+keeps_blocked c b = record { id = refl; phase = refl; fed = refl; watching = refl; counted = λ h. h }
 
 pub keeps_shown : (c : Client) (b : Bool) → Keeps c (record c { shown = b })
 keeps_shown c b = record { id = refl; phase = refl; fed = refl; watching = refl; counted = λ h. h }
@@ -380,40 +381,37 @@ rests_visited n f e s w served sent over = record {
 
 -- ---- all clients
 
--- the relations of `AllMatch` by the clients and the connections that are awake
-abbrev pub MatchOn : Running → Running → List Client → List ℕ → List Client → List ℕ → Type 0
+-- the relations of `AllMatch` by the clients and the places that are awake
+abbrev pub MatchOn : Running → Running → List Client → Awake → List Client → Awake → Type 0
 MatchOn old new cs awake ds later = (m : Machine) → Refines old m → AllMatch m cs awake → (n : Machine) × Refines new n × AllMatch n ds later
 
-abbrev pub VisitsAt : Running → Running → List Client → List Client → List ℕ → ℕ → Type 0 → Type 0
-VisitsAt old new cs ds awake place still = (m : Machine) → Refines old m → AllMatch m cs awake
-    → (n : Machine) × Refines new n × AllMatch n ds awake × (still → AreDue m cs (drop place awake) → AreDue n ds (drop (suc place) awake))
+abbrev pub VisitsAt : Running → Running → List Client → Awake → List Client → Awake → ℕ → Type 0 → Type 0
+VisitsAt old new cs awake ds later place still = (m : Machine) → Refines old m → AllMatch m cs awake
+    → (n : Machine) × Refines new n × AllMatch n ds later × (still → RestBefore m place cs → RestBefore n (place + 1) ds)
 
-abbrev pub SettlesOn : Running → Running → List Client → List ℕ → List Client → List ℕ → Type 0 → Type 0
+abbrev pub SettlesOn : Running → Running → List Client → Awake → List Client → Awake → Type 0 → Type 0
 SettlesOn old new cs awake ds later still = (m : Machine) → Refines old m → AllMatch m cs awake → (n : Machine) × Refines new n × AllMatch n ds later × (still → AreAtRest n ds)
 
-pub on_nothing : (a : Running) (cs : List Client) (aw : List ℕ) → MatchOn a a cs aw cs aw
+pub on_nothing : (a : Running) (cs : List Client) (aw : Awake) → MatchOn a a cs aw cs aw
 on_nothing a cs aw = λ m r s. (m, r, s)
 
-pub on_kept : (a b : Running) (cs : List Client) (aw : List ℕ) → Same a b → MatchOn a b cs aw cs aw
-on_kept a b cs aw keeps = λ m r s. (m, keeps m r, s)
-
-pub on_both : (a b x : Running) (cs ds es : List Client) (aw bw xw : List ℕ) → MatchOn a b cs aw ds bw → MatchOn b x ds bw es xw → MatchOn a x cs aw es xw
+pub on_both : (a b x : Running) (cs ds es : List Client) (aw bw xw : Awake) → MatchOn a b cs aw ds bw → MatchOn b x ds bw es xw → MatchOn a x cs aw es xw
 on_both a b x cs ds es aw bw xw one other = λ m r s.
     let t = one m r s in
     other t.0 t.1 t.2
 
-pub on_as : (a b : Running) (cs ds es : List Client) (aw bw xw : List ℕ) → MatchOn a b cs aw ds bw → es ≡ ds → xw ≡ bw → MatchOn a b cs aw es xw
+pub on_as : (a b : Running) (cs ds es : List Client) (aw bw xw : Awake) → MatchOn a b cs aw ds bw → es ≡ ds → xw ≡ bw → MatchOn a b cs aw es xw
 on_as a b cs ds es aw bw xw one same also = λ m r s.
     let t = one m r s in
     (t.0, t.1, subst (λ xs. AllMatch t.0 xs xw) (sym same) (subst (λ ks. AllMatch t.0 ds ks) (sym also) t.2))
 
 -- at first there are no clients
-pub stands_none : (m : Machine) (cs : List Client) (aw : List ℕ) → cs ≡ [] → IsNumbered m → AllMatch m cs aw
+pub stands_none : (m : Machine) (cs : List Client) (aw : Awake) → cs ≡ [] → IsNumbered m → AllMatch m cs aw
 unfolding Rise
-stands_none m cs aw none k = subst (λ xs. AllMatch m xs aw) (sym none) (record { numbered = k; suit = tt; rise = tt; asleep = tt })
+stands_none m cs aw none k = subst (λ xs. AllMatch m xs aw) (sym none) (record { numbered = k; suit = tt; rise = tt; asleep = λ i below. absurd (omega (arith, below)) })
 
 -- what stands on one machine stands on one with the same connections
-stands_by : (m n : Machine) (cs : List Client) (aw : List ℕ) → Stays m n → AllMatch m cs aw → AllMatch n cs aw
+stands_by : (m n : Machine) (cs : List Client) (aw : Awake) → Stays m n → AllMatch m cs aw → AllMatch n cs aw
 stands_by m n cs aw by s = record {
   numbered = let P : List (ℕ × Link) → Type 0 = λ es. IsNumbered (record m { links = es }) in subst P (sym by.links) s.numbered;
   suit = each_to (λ c. MatchesConnection m c) (λ c. MatchesConnection n c) cs (λ c suits. suits_same m n c (link_by c.id.0 m n by) by.next suits) s.suit;
@@ -421,58 +419,18 @@ stands_by m n cs aw by s = record {
   asleep = s.asleep;
 }
 
-pub on_passing : (a b : Running) (cs : List Client) (aw : List ℕ) → PassesBy a b → MatchOn a b cs aw cs aw
+pub on_passing : (a b : Running) (cs : List Client) (aw : Awake) → PassesBy a b → MatchOn a b cs aw cs aw
 on_passing a b cs aw by = λ m r s.
     let t = by m r in
     (t.0, t.1, stands_by m t.0 cs aw t.2 s)
 
-awake_more : (aw bw : List ℕ) (cs : List Client) → ((k : ℕ) → Has aw k → Has bw k) → AllByRecursion (λ c. IsAwakeOrQuiet aw c) cs → AllByRecursion (λ c. IsAwakeOrQuiet bw c) cs
-awake_more aw bw cs more all = each_to (λ c. IsAwakeOrQuiet aw c) (λ c. IsAwakeOrQuiet bw c) cs (λ c h. by_case c h) all
-  where
-    by_case : (c : Client) → IsAwakeOrQuiet aw c → IsAwakeOrQuiet bw c
-    by_case c (inl has) = inl (more c.id.0 has)
-    by_case c (inr quiet) = inr quiet
-
--- more connections are awake
-pub stands_awake : (m : Machine) (cs : List Client) (aw bw : List ℕ) → ((k : ℕ) → Has aw k → Has bw k) → AllMatch m cs aw → AllMatch m cs bw
-stands_awake m cs aw bw more s = record { numbered = s.numbered; suit = s.suit; rise = s.rise; asleep = awake_more aw bw cs more s.asleep }
-
 -- the machine stays as it is, and what is kept suits it still
-pub on_each : (a : Running) (cs ds : List Client) (aw bw : List ℕ) → ((m : Machine) → AllMatch m cs aw → AllMatch m ds bw) → MatchOn a a cs aw ds bw
+pub on_each : (a : Running) (cs ds : List Client) (aw bw : Awake) → ((m : Machine) → AllMatch m cs aw → AllMatch m ds bw) → MatchOn a a cs aw ds bw
 on_each a cs ds aw bw each = λ m r s. (m, r, each m s)
 
-pub on_woken : (a : Running) (cs : List Client) (aw bw : List ℕ) → ((k : ℕ) → Has aw k → Has bw k) → MatchOn a a cs aw cs bw
-on_woken a cs aw bw more = on_each a cs cs aw bw (λ m s. stands_awake m cs aw bw more s)
-
--- a client that is awake may have to be shown something
-pub stands_roused : (m : Machine) (cs : List Client) (aw bw : List ℕ) (i : ℕ) (c : Client) → i < length cs → c ≡ get_or cs i c → Has bw (get_or cs i c).id.0 → ((k : ℕ) → Has aw k → Has bw k) → AllMatch m cs aw
-    → AllMatch m (set cs i (record c { shown = false })) bw
-stands_roused m cs aw bw i c below is awake more s =
-    let e : Client = record c { shown = false } in
-    let own : MatchesConnection m c = subst (λ x. MatchesConnection m x) (sym is) (each_at (λ x. MatchesConnection m x) cs i c s.suit below) in
-    record {
-      numbered = s.numbered;
-      suit = each_put (λ x. MatchesConnection m x) cs i e s.suit (suits_kept m c e (keeps_shown c false) own);
-      rise = rise_set cs i c e s.rise below (ap (λ x. x.id) is);
-      asleep = each_put (λ x. IsAwakeOrQuiet bw x) cs i e (awake_more aw bw cs more s.asleep) (inl (subst (λ x. Has bw x.id.0) (sym is) awake));
-    }
-
--- a step of a client may be made that was held back, or is held back
-pub stands_held : (m : Machine) (cs : List Client) (aw : List ℕ) (i : ℕ) (c : Client) (b : Bool) → i < length cs → c ≡ get_or cs i c → AllMatch m cs aw → AllMatch m (set cs i (record c { held = b })) aw
-stands_held m cs aw i c b below is s =
-    let e : Client = record c { held = b } in
-    let own : MatchesConnection m c = subst (λ x. MatchesConnection m x) (sym is) (each_at (λ x. MatchesConnection m x) cs i c s.suit below) in
-    let asleep : IsAwakeOrQuiet aw c = subst (λ x. IsAwakeOrQuiet aw x) (sym is) (each_at (λ x. IsAwakeOrQuiet aw x) cs i c s.asleep below) in
-    record {
-      numbered = s.numbered;
-      suit = each_put (λ x. MatchesConnection m x) cs i e s.suit (suits_kept m c e (record { id = refl; phase = refl; fed = refl; watching = refl; counted = λ h. h }) own);
-      rise = rise_set cs i c e s.rise below (ap (λ x. x.id) is);
-      asleep = each_put (λ x. IsAwakeOrQuiet aw x) cs i e s.asleep (by_case asleep);
-    }
-  where
-    by_case : IsAwakeOrQuiet aw c → IsAwakeOrQuiet aw (record c { held = b })
-    by_case (inl has) = inl has
-    by_case (inr quiet) = inr (record { phase = quiet.phase; fed = quiet.fed; shown = quiet.shown; owed = quiet.owed })
+-- more places are awake
+pub on_woken : (a : Running) (cs : List Client) (aw bw : Awake) → ((j : ℕ) → IsWithin aw j → IsWithin bw j) → MatchOn a a cs aw cs bw
+on_woken a cs aw bw more = λ m r s. (m, r, record { numbered = s.numbered; suit = s.suit; rise = s.rise; asleep = asleep_more aw bw cs more s.asleep })
 
 -- one client more may have something to show
 called_next : (o : Option (List ℕ)) (cs : List Client) (n : ℕ) → HoldsAt (λ c. is_called o c.watching ≡ true → c.shown ≡ false) cs n → AreCalled o n cs → AreCalled o (suc n) cs
@@ -490,7 +448,7 @@ called_set o cs n e below unshown before = called_next o (set cs n e) n (λ d. s
     (λ i under d. subst (λ x. is_called o x.watching ≡ true → x.shown ≡ false) (sym (get_or-set_other cs n i e d (λ same. absurd (omega (arith, under, same))))) (before i under d))
 
 -- the clients whose watches a change may concern are called
-pub roused_by : (m : Machine) (revision : ℕ) (o : Option (List ℕ)) (cs : List Client) (aw : List ℕ) → AllMatch m cs aw → AreCalled o (length cs) cs
+pub roused_by : (m : Machine) (revision : ℕ) (o : Option (List ℕ)) (cs : List Client) (aw : Awake) → AllMatch m cs aw → AreCalled o (length cs) cs
     → ((ns : List ℕ) → o ≡ Some ns → (id : ℕ) → is_concerned m id revision ≡ true → is_among ns (fingerprint_on (link_at id m)) ≡ true) → AreRoused m revision cs
 roused_by m revision o cs aw s called listed i below d concerned =
     let c : Client = get_or cs i d in
@@ -519,26 +477,33 @@ some_items (Some v) P h ns is = subst P (same_items v.items ns is) h
     same_items xs ys e = cc e
 
 -- one client is changed, which is awake
-pub stands_set : (m n : Machine) (cs : List Client) (aw bw : List ℕ) (i : ℕ) (d e : Client) → AllMatch m cs aw → i < length cs → GoesOn (get_or cs i d).id.0 m n → e.id ≡ (get_or cs i d).id → MatchesConnection n e
-    → Has bw e.id.0 → ((k : ℕ) → Has aw k → Has bw k) → AllMatch n (set cs i e) bw
+pub stands_set : (m n : Machine) (cs : List Client) (aw bw : Awake) (i : ℕ) (d e : Client) → AllMatch m cs aw → i < length cs → GoesOn (get_or cs i d).id.0 m n → e.id ≡ (get_or cs i d).id → MatchesConnection n e
+    → IsWithin bw i → ((j : ℕ) → IsWithin aw j → IsWithin bw j) → AllMatch n (set cs i e) bw
 stands_set m n cs aw bw i d e s below g same suits awake more = record {
   numbered = g.numbered;
   suit = each_set (λ c. MatchesConnection m c) (λ c. MatchesConnection n c) cs i d e s.rise below (λ c never suits. suits_same m n c (g.others c.id.0 never) g.next suits) s.suit suits;
   rise = rise_set cs i d e s.rise below same;
-  asleep = each_put (λ c. IsAwakeOrQuiet bw c) cs i e (awake_more aw bw cs more s.asleep) (inl awake);
+  asleep = asleep_set bw cs i e (inl awake) (asleep_more aw bw cs more s.asleep);
 }
 
+-- a client that is awake is kept otherwise
+pub stands_kept : (m : Machine) (cs : List Client) (aw bw : Awake) (i : ℕ) (c e : Client) → i < length cs → c ≡ get_or cs i c → Keeps c e → IsWithin bw i → ((j : ℕ) → IsWithin aw j → IsWithin bw j) → AllMatch m cs aw
+    → AllMatch m (set cs i e) bw
+stands_kept m cs aw bw i c e below is keeps awake more s =
+    let own : MatchesConnection m c = subst (λ x. MatchesConnection m x) (sym is) (each_at (λ x. MatchesConnection m x) cs i c s.suit below) in
+    stands_set m m cs aw bw i c e s below (goes_none (get_or cs i c).id.0 m s.numbered) (keeps.id ∙ ap (λ x. x.id) is) (suits_kept m c e keeps own) awake more
+
 -- one client leaves
-pub stands_left : (m n : Machine) (cs : List Client) (aw : List ℕ) (i : ℕ) (d : Client) → AllMatch m cs aw → i < length cs → GoesOn (get_or cs i d).id.0 m n → AllMatch n (remove cs i) aw
+stands_left : (m n : Machine) (cs : List Client) (aw : Awake) (i : ℕ) (d : Client) → AllMatch m cs aw → i < length cs → GoesOn (get_or cs i d).id.0 m n → AllMatch n (remove cs i) (record aw { start = aw.start - 1 })
 stands_left m n cs aw i d s below g = record {
   numbered = g.numbered;
   suit = each_left (λ c. MatchesConnection m c) (λ c. MatchesConnection n c) cs i d s.rise below (λ c never suits. suits_same m n c (g.others c.id.0 never) g.next suits) s.suit;
   rise = rise_left cs i s.rise;
-  asleep = each_kept (λ c. IsAwakeOrQuiet aw c) cs i s.asleep;
+  asleep = asleep_left aw cs i below s.asleep;
 }
 
 -- the next connection is opened or not
-stands_next : (m n : Machine) (cs : List Client) (aw : List ℕ) → AllMatch m cs aw → GoesOn m.next_id m n → AllMatch n cs aw
+stands_next : (m n : Machine) (cs : List Client) (aw : Awake) → AllMatch m cs aw → GoesOn m.next_id m n → AllMatch n cs aw
 stands_next m n cs aw s g = record {
   numbered = g.numbered;
   suit = each_to (λ c. MatchesConnection m c) (λ c. MatchesConnection n c) cs (λ c suits. suits_same m n c (g.others c.id.0 (λ same. let less : c.id.0 < m.next_id = suits.below in omega (arith, less, same))) g.next suits) s.suit;
@@ -547,18 +512,18 @@ stands_next m n cs aw s g = record {
 }
 
 -- a client comes
-stands_more : (m n : Machine) (cs : List Client) (aw : List ℕ) (e : Client) → AllMatch m cs aw → GoesOn m.next_id m n → e.id.0 ≡ m.next_id → MatchesConnection n e → IsQuiet e → AllMatch n (cs ++ e ∷ []) aw
+stands_more : (m n : Machine) (cs : List Client) (aw : Awake) (e : Client) → AllMatch m cs aw → GoesOn m.next_id m n → e.id.0 ≡ m.next_id → MatchesConnection n e → IsQuiet e → AllMatch n (cs ++ e ∷ []) aw
 stands_more m n cs aw e s g next suits quiet =
     let stands = stands_next m n cs aw s g in
     record {
       numbered = g.numbered;
       suit = each_more (λ c. MatchesConnection n c) cs e stands.suit suits;
       rise = rise_more cs e s.rise (each_to (λ c. MatchesConnection m c) (λ c. c.id.0 < e.id.0) cs (λ c has. let less : c.id.0 < m.next_id = has.below in omega (arith, less, next)) s.suit);
-      asleep = each_more (λ c. IsAwakeOrQuiet aw c) cs e s.asleep (inr quiet);
+      asleep = asleep_came aw cs e quiet s.asleep;
     }
 
 -- a connection was opened for a client, or none
-pub on_opened : (a b : Running) (cs ds : List Client) (aw : List ℕ) (who : Identity) (id : ConnId) → Makes a b (event.Open who) (answer.Opened id) → (e : Client) × (ds ≡ cs ++ e ∷ []) × (e.id ≡ id) × IsNew e
+pub on_opened : (a b : Running) (cs ds : List Client) (aw : Awake) (who : Identity) (id : ConnId) → Makes a b (event.Open who) (answer.Opened id) → (e : Client) × (ds ≡ cs ++ e ∷ []) × (e.id ≡ id) × IsNew e
     → MatchOn a b cs aw ds aw
 on_opened a b cs ds aw who id makes fresh = λ m r s.
     let e : Client = fresh.0 in
@@ -578,42 +543,34 @@ on_opened a b cs ds aw who id makes fresh = λ m r s.
     } in
     (n, (makes m r).1, subst (λ xs. AllMatch n xs aw) (sym fresh.1) (stands_more m n cs aw e s g at suits new.quiet))
 
-pub on_unopened : (a b : Running) (cs : List Client) (aw : List ℕ) (who : Identity) (o : OpenError) → Opens a b who (Err o) → MatchOn a b cs aw cs aw
+pub on_unopened : (a b : Running) (cs : List Client) (aw : Awake) (who : Identity) (o : OpenError) → Opens a b who (Err o) → MatchOn a b cs aw cs aw
 on_unopened a b cs aw who refused.TooMany makes = λ m r s. ((step m (event.Open who)).1, (makes m r).1, stands_next m (step m (event.Open who)).1 cs aw s (goes_event m (event.Open who) m.next_id refl s.numbered))
 on_unopened a b cs aw who refused.Memory out = λ m r s. (m, (out m r).0, s)
 
 -- a client's connection is closed
-pub on_closed : (a b : Running) (cs ds : List Client) (aw : List ℕ) (i : ℕ) (d : Client) → i < length cs → d ≡ get_or cs i d → ds ≡ remove cs i → Makes a b (event.Close d.id) answer.Done → MatchOn a b cs aw ds aw
+pub on_closed : (a b : Running) (cs ds : List Client) (aw : Awake) (i : ℕ) (d : Client) → i < length cs → d ≡ get_or cs i d → ds ≡ remove cs i → Makes a b (event.Close d.id) answer.Done
+    → MatchOn a b cs aw ds (record aw { start = aw.start - 1 })
 on_closed a b cs ds aw i d below is are makes = λ m r s.
     let n : Machine = (step m (event.Close d.id)).1 in
     let g = goes_event m (event.Close d.id) d.id.0 refl s.numbered in
-    (n, (makes m r).1, subst (λ xs. AllMatch n xs aw) (sym are) (stands_left m n cs aw i d s below (subst (λ c. GoesOn c.id.0 m n) is g)))
+    (n, (makes m r).1, subst (λ xs. AllMatch n xs (record aw { start = aw.start - 1 })) (sym are) (stands_left m n cs aw i d s below (subst (λ c. GoesOn c.id.0 m n) is g)))
 
 -- the client at a place left
-pub on_left : (a b : Running) (cs ds : Clients) (r s : Report) (i : ℕ) (e : Client) → i < length cs.list.items → Ends i a b cs ds r s → MatchOn a b cs.list.items cs.awake.numbers.items ds.list.items cs.awake.numbers.items
+pub on_left : (a b : Running) (cs ds : Clients) (r s : Report) (i : ℕ) (e : Client) → i < length cs.list.items → Ends i a b cs ds r s → MatchOn a b cs.list.items cs.awake ds.list.items ds.awake
 on_left a b cs ds r s i e below left =
     let c : Client = get_or cs.list.items i e in
-    on_closed a b cs.list.items ds.list.items cs.awake.numbers.items i c below (get_or_default cs.list.items i e c below) left.list (left.closes e)
-
--- the slot of a client that is awake takes bytes again
-pub stands_free : (m : Machine) (cs : List Client) (aw bw : List ℕ) (i : ℕ) (c : Client) → i < length cs → c ≡ get_or cs i c → Has bw (get_or cs i c).id.0 → ((k : ℕ) → Has aw k → Has bw k) → AllMatch m cs aw
-    → AllMatch m (set cs i (record c { blocked = false })) bw
-stands_free m cs aw bw i c below is awake more s =
-    let e : Client = record c { blocked = false } in
-    let own : MatchesConnection m c = subst (λ x. MatchesConnection m x) (sym is) (each_at (λ x. MatchesConnection m x) cs i c s.suit below) in
-    stands_set m m cs aw bw i c e s below (goes_none (get_or cs i c).id.0 m s.numbered) (ap (λ x. x.id) is)
-    (suits_kept m c e (record { id = refl; phase = refl; fed = refl; watching = refl; counted = λ h. h }) own) (subst (λ x. Has bw x.id.0) (sym is) awake) more
+    on_as _ _ _ _ _ _ _ _ (on_closed a b cs.list.items ds.list.items cs.awake i c below (get_or_default cs.list.items i e c below) left.list (left.closes e)) refl left.awake
 
 -- a client's bytes have ended
-pub stands_ended : (m : Machine) (cs : List Client) (aw : List ℕ) (i : ℕ) (c : Client) → i < length cs → c ≡ get_or cs i c → Has aw (get_or cs i c).id.0 → AllMatch m cs aw
+pub stands_ended : (m : Machine) (cs : List Client) (aw : Awake) (i : ℕ) (c : Client) → i < length cs → c ≡ get_or cs i c → IsWithin aw i → AllMatch m cs aw
     → AllMatch m (set cs i (record c { phase = phase.Ending; fed = true })) aw
 stands_ended m cs aw i c below is has s =
     let own : MatchesConnection m c = subst (λ x. MatchesConnection m x) (sym is) (each_at (λ x. MatchesConnection m x) cs i c s.suit below) in
     stands_set m m cs aw aw i c (record c { phase = phase.Ending; fed = true }) s below (goes_none (get_or cs i c).id.0 m s.numbered) (ap (λ x. x.id) is)
-    (record { unfed = λ e. absurd (true≢false e); closed = λ e. absurd (closed_not_ending (sym e)); ending = λ e. refl; counted = own.counted; below = own.below; watching = own.watching }) (subst (λ x. Has aw x.id.0) (sym is) has) (λ k h. h)
+    (record { unfed = λ e. absurd (true≢false e); closed = λ e. absurd (closed_not_ending (sym e)); ending = λ e. refl; counted = own.counted; below = own.below; watching = own.watching }) has (λ j h. h)
 
 -- a piece of a client is fed
-pub on_fed : (a b : Running) (cs : List Client) (aw : List ℕ) (i : ℕ) (c : Client) (id : ConnId) (piece : List ℕ) → i < length cs → c ≡ get_or cs i c → id ≡ c.id → Has aw (get_or cs i c).id.0
+pub on_fed : (a b : Running) (cs : List Client) (aw : Awake) (i : ℕ) (c : Client) (id : ConnId) (piece : List ℕ) → i < length cs → c ≡ get_or cs i c → id ≡ c.id → IsWithin aw i
     → (get_or cs i c).phase ≡ phase.Open → Makes a b (event.Feed id piece) answer.Done → MatchOn a b cs aw (set cs i (record c { fed = true })) aw
 on_fed a b cs aw i c id piece below is same has reading makes = λ m r s.
     let n : Machine = (step m (event.Feed id piece)).1 in
@@ -623,127 +580,76 @@ on_fed a b cs aw i c id piece below is same has reading makes = λ m r s.
       n,
       (makes m r).1,
       stands_set m n cs aw aw i c (record c { fed = true }) s below (subst (λ x. GoesOn x.id.0 m n) is g) (ap (λ x. x.id) is)
-          (suits_fed m n c (record c { fed = true }) g own refl refl (λ closed. absurd (open_not_closed (sym going ∙ closed))) own.counted (own.watching ∙ subst (λ k. fingerprint_on (link_at k.0 m) ≡ fingerprint_on (link_at k.0 n)) same (fed_fingerprint m id piece))) (subst (λ x. Has aw x.id.0) (sym is) has) (λ k h. h),
+          (suits_fed m n c (record c { fed = true }) g own refl refl (λ closed. absurd (open_not_closed (sym going ∙ closed))) own.counted (own.watching ∙ subst (λ k. fingerprint_on (link_at k.0 m) ≡ fingerprint_on (link_at k.0 n)) same (fed_fingerprint m id piece))) has (λ j h. h),
     )
 
 -- a piece of a client is not taken in
-pub on_refused : (a b : Running) (cs : List Client) (aw : List ℕ) (id : ConnId) (piece : List ℕ) (r : FeedError) → TakesIn a b id piece (Err r) → MatchOn a b cs aw cs aw
+pub on_refused : (a b : Running) (cs : List Client) (aw : Awake) (id : ConnId) (piece : List ℕ) (r : FeedError) → TakesIn a b id piece (Err r) → MatchOn a b cs aw cs aw
 on_refused a b cs aw id piece fed.Memory out = λ m r s. (m, (out m r).0, s)
 on_refused a b cs aw id piece fed.Full makes = λ m r s. (m, subst (λ q. Refines b q) (unfed_stays m id piece answer.Full (makes m r).0 (λ same. absurd (cc))) (makes m r).1, s)
 on_refused a b cs aw id piece fed.Ended makes = λ m r s. (m, subst (λ q. Refines b q) (unfed_stays m id piece answer.Ended (makes m r).0 (λ same. absurd (cc))) (makes m r).1, s)
 
--- the connection at a place sleeps: its client is quiet, or there is none
-pub stands_asleep : (m : Machine) (cs : List Client) (aw : List ℕ) (p d : ℕ) → AllByRecursion (λ c. get_or aw p d ≡ c.id.0 → IsQuiet c) cs → AllMatch m cs aw → AllMatch m cs (remove aw p)
-stands_asleep m cs aw p d quiet s = record {
-  numbered = s.numbered;
-  suit = s.suit;
-  rise = s.rise;
-  asleep = each_both (λ c. get_or aw p d ≡ c.id.0 → IsQuiet c) (λ c. IsAwakeOrQuiet aw c) (λ c. IsAwakeOrQuiet (remove aw p) c) cs (λ c if_here h. by_case c if_here h) quiet s.asleep;
-}
+-- a place sleeps whose client is quiet, or that has none
+pub stands_passed : (m : Machine) (cs : List Client) (aw bw : Awake) (p : ℕ) → (p < length cs → HoldsAt (λ c. IsQuiet c) cs p) → ((i : ℕ) → (i ≡ p → ⊥) → IsWithin aw i → IsWithin bw i) → AllMatch m cs aw → AllMatch m cs bw
+stands_passed m cs aw bw p quiet others s = record { numbered = s.numbered; suit = s.suit; rise = s.rise; asleep = λ i below. by_place i below (cases_eq i p) (s.asleep i below) }
   where
-    by_place : (c : Client) → (get_or aw p d ≡ c.id.0 → IsQuiet c) → Has aw c.id.0 → (get_or aw p d ≡ c.id.0) ⊎ (get_or aw p d ≡ c.id.0 → ⊥) → IsAwakeOrQuiet (remove aw p) c
-    by_place c if_here has (inl same) = inr (if_here same)
-    by_place c if_here has (inr never) = inl (has_removed aw p c.id.0 d never has)
-
-    by_case : (c : Client) → (get_or aw p d ≡ c.id.0 → IsQuiet c) → IsAwakeOrQuiet aw c → IsAwakeOrQuiet (remove aw p) c
-    by_case c if_here (inl has) = by_place c if_here has (cases_eq (get_or aw p d) c.id.0)
-    by_case c if_here (inr quiet) = inr quiet
-
--- the client of the number is quiet
-pub stands_quiet : (m : Machine) (cs : List Client) (aw : List ℕ) (p i : ℕ) (c : Client) → i < length cs → c ≡ get_or cs i c → ((d : Client) (x : ℕ) → get_or aw p x ≡ (get_or cs i d).id.0) → IsQuiet c → AllMatch m cs aw
-    → AllMatch m cs (remove aw p)
-stands_quiet m cs aw p i c below is at quiet s =
-    let own : IsQuiet (get_or cs i c) = subst (λ z. IsQuiet z) is quiet in
-    stands_asleep m cs aw p 0 (each_to (λ x. x.id.0 ≡ (get_or cs i c).id.0 → IsQuiet x) (λ x. get_or aw p 0 ≡ x.id.0 → IsQuiet x) cs (λ x f same. f (sym same ∙ at c 0)) (each_only (λ x. IsQuiet x) cs i c s.rise below own)) s
-
--- no client has the number
-pub stands_absent : (m : Machine) (cs : List Client) (aw : List ℕ) (p : ℕ) → (Rise cs → p < length aw → AllByRecursion (λ c. (x : ℕ) → get_or aw p x ≡ c.id.0 → ⊥) cs) → AllMatch m cs aw → AllMatch m cs (remove aw p)
-stands_absent m cs aw p absent s = by_place (cases_lt p (length aw))
-  where
-    by_place : (p < length aw) ⊎ (length aw ≤ p) → AllMatch m cs (remove aw p)
-    by_place (inl inside) = stands_asleep m cs aw p 0 (each_to (λ c. (x : ℕ) → get_or aw p x ≡ c.id.0 → ⊥) (λ c. get_or aw p 0 ≡ c.id.0 → IsQuiet c) cs (λ c never same. absurd (never 0 same)) (absent s.rise inside)) s
-    by_place (inr past) = subst (λ ks. AllMatch m cs ks) (sym (remove_past aw p past)) s
+    by_place : (i : ℕ) → i < length cs → (i ≡ p) ⊎ (i ≡ p → ⊥) → IsWithin aw i ⊎ HoldsAt (λ c. IsQuiet c) cs i → IsWithin bw i ⊎ HoldsAt (λ c. IsQuiet c) cs i
+    by_place i below (inl same) asleep = inr (subst (λ k. HoldsAt (λ c. IsQuiet c) cs k) (sym same) (quiet (subst (λ k. k < length cs) same below)))
+    by_place i below (inr never) (inl within) = inl (others i never within)
+    by_place i below (inr never) (inr asleep) = inr asleep
 
 -- ---- visits
 
--- at first each client is quiet or awake
-due_first : (m : Machine) (cs : List Client) (aw : List ℕ) → AllMatch m cs aw → AreDue m cs aw
-due_first m cs aw s = each_both (λ c. MatchesConnection m c) (λ c. IsAwakeOrQuiet aw c) (λ c. Rests m c ⊎ Has aw c.id.0) cs (λ c suits h. by_case c suits h) s.suit s.asleep
+rests_asleep : (m : Machine) (cs : List Client) (i : ℕ) → i < length cs → AllByRecursion (λ c. MatchesConnection m c) cs → HoldsAt (λ c. IsQuiet c) cs i → HoldsAt (λ c. Rests m c) cs i
+rests_asleep m cs i below suit quiet d = rests_quiet m (get_or cs i d) (each_at (λ c. MatchesConnection m c) cs i d suit below) (quiet d)
+
+-- at first those before the first place that is awake rest
+rest_first : (m : Machine) (cs : List Client) (aw : Awake) → AllMatch m cs aw → RestBefore m aw.start cs
+rest_first m cs aw s i before below = elim (s.asleep i below) [ inl within ↦ absurd (omega (arith, before, within.0)) | inr quiet ↦ rests_asleep m cs i below s.suit quiet ]
+
+-- at last all rest
+rest_last : (m : Machine) (cs : List Client) (aw : Awake) (p : ℕ) → aw.end ≤ p → AllMatch m cs aw → RestBefore m p cs → AreAtRest m cs
+rest_last m cs aw p past s rest = each_by_place (λ c. Rests m c) cs (λ i below. by_place i below (cases_lt i p) (s.asleep i below))
   where
-    by_case : (c : Client) → MatchesConnection m c → IsAwakeOrQuiet aw c → Rests m c ⊎ Has aw c.id.0
-    by_case c suits (inl has) = inr has
-    by_case c suits (inr quiet) = inl (rests_quiet m c suits quiet)
+    by_place : (i : ℕ) → i < length cs → (i < p) ⊎ (p ≤ i) → IsWithin aw i ⊎ HoldsAt (λ c. IsQuiet c) cs i → HoldsAt (λ c. Rests m c) cs i
+    by_place i below (inl before) asleep = rest i before below
+    by_place i below (inr behind) (inl within) = absurd (omega (arith, past, behind, within.1))
+    by_place i below (inr behind) (inr quiet) = rests_asleep m cs i below s.suit quiet
 
--- at last none is due
-due_last : (m : Machine) (cs : List Client) (rest : List ℕ) → rest ≡ [] → AreDue m cs rest → AreAtRest m cs
-due_last m cs rest none due = each_to (λ c. Rests m c ⊎ Has rest c.id.0) (λ c. Rests m c) cs (λ c h. by_case c h) due
+-- the client at a place rests, and those before it as before
+rest_set : (m n : Machine) (cs : List Client) (i : ℕ) (d e : Client) → Rise cs → i < length cs → GoesOn (get_or cs i d).id.0 m n → Rests n e → RestBefore m i cs → RestBefore n (i + 1) (set cs i e)
+rest_set m n cs i d e rise below g rests rest j under inside = by_place (cases_lt j i)
   where
-    by_case : (c : Client) → Rests m c ⊎ Has rest c.id.0 → Rests m c
-    by_case c (inl rests) = rests
-    by_case c (inr has) = absurd (subst (λ xs. Has xs c.id.0) none has)
+    by_place : (j < i) ⊎ (i ≤ j) → HoldsAt (λ c. Rests n c) (set cs i e) j
+    by_place (inl before) = λ x.
+        let c : Client = get_or cs j x in
+        let less : c.id.0 < (get_or cs i x).id.0 = rise_less cs j i x rise before below in
+        let at : (get_or cs i x).id.0 ≡ (get_or cs i d).id.0 = ap (λ y. y.id.0) (get_or_default cs i x d below) in
+        subst (λ y. Rests n y) (sym (get_or-set_other cs i j e x (λ same. absurd (omega (arith, before, same)))))
+        (rests_same m n c (g.others c.id.0 (λ same. omega (arith, less, at, same))) (rest j before (omega (arith, before, below)) x))
+    by_place (inr behind) = λ x. subst (λ y. Rests n y) (sym (get_or-set_at cs i j e x (omega (arith, under, behind)) below)) rests
 
--- the same clients on a machine with the same connections
-due_by : (m n : Machine) (cs : List Client) (rest : List ℕ) → Stays m n → AreDue m cs rest → AreDue n cs rest
-due_by m n cs rest by due = each_to (λ c. Rests m c ⊎ Has rest c.id.0) (λ c. Rests n c ⊎ Has rest c.id.0) cs (λ c h. by_case c h) due
+-- a client that was passed by rests
+pub visits_passed : (a : Running) (cs : List Client) (aw : Awake) (p : ℕ) (still : Type 0) → (p < length cs → HoldsAt (λ c. IsQuiet c) cs p) → VisitsAt a a cs aw cs aw p still
+visits_passed a cs aw p still quiet = λ m r s. (m, r, s, λ h rest i under below. by_place m s rest i under below (cases_lt i p))
   where
-    by_case : (c : Client) → Rests m c ⊎ Has rest c.id.0 → Rests n c ⊎ Has rest c.id.0
-    by_case c (inl rests) = inl (rests_same m n c (link_by c.id.0 m n by) rests)
-    by_case c (inr has) = inr has
-
--- the client at a place rests, and the others as before
-due_set : (m n : Machine) (cs : List Client) (aw : List ℕ) (p i : ℕ) (d e : Client) → Rise cs → i < length cs → ((x : ℕ) → get_or aw p x ≡ (get_or cs i d).id.0) → GoesOn (get_or cs i d).id.0 m n → Rests n e
-    → AreDue m cs (drop p aw) → AreDue n (set cs i e) (drop (suc p) aw)
-due_set m n cs aw p i d e rise below at g rests due = each_set (λ c. Rests m c ⊎ Has (drop p aw) c.id.0) (λ c. Rests n c ⊎ Has (drop (suc p) aw) c.id.0) cs i d e rise below (λ c never h. by_case c never h) due (inl rests)
-  where
-    by_next : (c : Client) → (c.id.0 ≡ (get_or cs i d).id.0 → ⊥) → ((x : ℕ) → get_or aw p x ≡ c.id.0) ⊎ Has (drop (suc p) aw) c.id.0 → Rests n c ⊎ Has (drop (suc p) aw) c.id.0
-    by_next c never (inl same) = absurd (never (sym (same 0) ∙ at 0))
-    by_next c never (inr has) = inr has
-
-    by_case : (c : Client) → (c.id.0 ≡ (get_or cs i d).id.0 → ⊥) → Rests m c ⊎ Has (drop p aw) c.id.0 → Rests n c ⊎ Has (drop (suc p) aw) c.id.0
-    by_case c never (inl rests) = inl (rests_same m n c (g.others c.id.0 never) rests)
-    by_case c never (inr has) = by_next c never (has_next aw p c.id.0 has)
-
--- no client has the number at a place
-due_absent : (m : Machine) (cs : List Client) (aw : List ℕ) (p : ℕ) → (p < length aw → AllByRecursion (λ c. (x : ℕ) → get_or aw p x ≡ c.id.0 → ⊥) cs) → AreDue m cs (drop p aw) → AreDue m cs (drop (suc p) aw)
-due_absent m cs aw p absent due = by_place (cases_lt p (length aw))
-  where
-    by_next : (c : Client) → ((x : ℕ) → get_or aw p x ≡ c.id.0 → ⊥) → ((x : ℕ) → get_or aw p x ≡ c.id.0) ⊎ Has (drop (suc p) aw) c.id.0 → Rests m c ⊎ Has (drop (suc p) aw) c.id.0
-    by_next c never (inl same) = absurd (never 0 (same 0))
-    by_next c never (inr has) = inr has
-
-    by_case : (c : Client) → ((x : ℕ) → get_or aw p x ≡ c.id.0 → ⊥) → Rests m c ⊎ Has (drop p aw) c.id.0 → Rests m c ⊎ Has (drop (suc p) aw) c.id.0
-    by_case c never (inl rests) = inl rests
-    by_case c never (inr has) = by_next c never (has_next aw p c.id.0 has)
-
-    by_past : (c : Client) → length aw ≤ p → Rests m c ⊎ Has (drop p aw) c.id.0 → Rests m c ⊎ Has (drop (suc p) aw) c.id.0
-    by_past c past (inl rests) = inl rests
-    by_past c past (inr has) = let inside : p < length aw = has_inside aw p c.id.0 has in absurd (omega (arith, past, inside))
-
-    by_place : (p < length aw) ⊎ (length aw ≤ p) → AreDue m cs (drop (suc p) aw)
-    by_place (inl inside) = each_both (λ c. (x : ℕ) → get_or aw p x ≡ c.id.0 → ⊥) (λ c. Rests m c ⊎ Has (drop p aw) c.id.0) (λ c. Rests m c ⊎ Has (drop (suc p) aw) c.id.0) cs (λ c never h. by_case c never h) (absent inside) due
-    by_place (inr past) = each_to (λ c. Rests m c ⊎ Has (drop p aw) c.id.0) (λ c. Rests m c ⊎ Has (drop (suc p) aw) c.id.0) cs (λ c h. by_past c past h) due
-
--- no client was there to be visited
-pub visits_absent : (a : Running) (cs : List Client) (aw : List ℕ) (p : ℕ) (still : Type 0) → (Rise cs → p < length aw → AllByRecursion (λ c. (x : ℕ) → get_or aw p x ≡ c.id.0 → ⊥) cs) → VisitsAt a a cs cs aw p still
-visits_absent a cs aw p still absent = λ m r s. (m, r, s, λ h due. due_absent m cs aw p (absent s.rise) due)
+    by_place : (m : Machine) → AllMatch m cs aw → RestBefore m p cs → (i : ℕ) → i < p + 1 → i < length cs → (i < p) ⊎ (p ≤ i) → HoldsAt (λ c. Rests m c) cs i
+    by_place m s rest i under below (inl before) = rest i before below
+    by_place m s rest i under below (inr behind) =
+        let same : p ≡ i = omega (arith, under, behind) in
+        rests_asleep m cs i below s.suit (subst (λ k. HoldsAt (λ c. IsQuiet c) cs k) same (quiet (subst (λ k. k < length cs) (sym same) below)))
 
 -- something was done for a client, which may have left
-pub visits_made : (a b : Running) (cs ds : List Client) (aw : List ℕ) (p : ℕ) (still : Type 0) → (still → ⊥) → MatchOn a b cs aw ds aw → VisitsAt a b cs ds aw p still
-visits_made a b cs ds aw p still never on = λ m r s.
+pub visits_made : (a b : Running) (cs ds : List Client) (aw bw : Awake) (p : ℕ) (still : Type 0) → (still → ⊥) → MatchOn a b cs aw ds bw → VisitsAt a b cs aw ds bw p still
+visits_made a b cs ds aw bw p still never on = λ m r s.
     let t = on m r s in
-    (t.0, t.1, t.2, λ h due. absurd (never h))
+    (t.0, t.1, t.2, λ h rest. absurd (never h))
 
 -- a client was tended
-pub on_tended : (a b : Running) (cs : List Client) (aw : List ℕ) (p i : ℕ) (c e : Client) → i < length cs → p < length aw → ((d : Client) (x : ℕ) → get_or aw p x ≡ (get_or cs i d).id.0) → c ≡ get_or cs i c → Tends a b c e
-    → MatchOn a b cs aw (set cs i e) aw
-on_tended a b cs aw p i c e below inside at is tends = λ m r s.
+pub on_tended : (a b : Running) (cs : List Client) (aw : Awake) (i : ℕ) (c e : Client) → i < length cs → IsWithin aw i → c ≡ get_or cs i c → Tends a b c e → MatchOn a b cs aw (set cs i e) aw
+on_tended a b cs aw i c e below within is tends = λ m r s.
     let t = tends m r s.numbered (subst (λ z. MatchesConnection m z) (sym is) (each_at (λ x. MatchesConnection m x) cs i c s.suit below)) in
-    let same : e.id ≡ (get_or cs i c).id = t.3 ∙ ap (λ z. z.id) is in (
-      t.0,
-      t.1,
-      stands_set m t.0 cs aw aw i c e s below (subst (λ z. GoesOn z.id.0 m t.0) is t.2) same t.4
-          (has_at aw p e.id.0 0 inside (at c 0 ∙ ap (λ k. k.0) (sym same))) (λ k h. h),
-    )
+    (t.0, t.1, stands_set m t.0 cs aw aw i c e s below (subst (λ z. GoesOn z.id.0 m t.0) is t.2) (t.3 ∙ ap (λ z. z.id) is) t.4 within (λ j h. h))
 
 -- the watch of a client was moved on, if it was
 pub tends_skipped : (a b : Running) (c : Client) (skipped : Bool) → (skipped ≡ true → Makes a b (event.Pump c.id) answer.Nothing) → (skipped ≡ true → c.phase ≡ phase.Closed → ⊥) → (skipped ≡ false → b ≡ a) → Tends a b c c
@@ -751,10 +657,9 @@ tends_skipped a b c true makes going same = tends_unshown a b c c None (keeps_no
 tends_skipped a b c false makes going same = subst (λ x. Tends a x c c) (sym (same refl)) (tends_nothing a c c (keeps_nothing c))
 
 -- a client was tended that may sleep, and then stays as it was
-pub on_passed : (a b : Running) (cs : List Client) (aw : List ℕ) (i : ℕ) (c e : Client) → i < length cs → c ≡ get_or cs i c → Tends a b c e → (IsQuiet c → e ≡ c) → MatchOn a b cs aw (set cs i e) aw
+pub on_passed : (a b : Running) (cs : List Client) (aw : Awake) (i : ℕ) (c e : Client) → i < length cs → c ≡ get_or cs i c → Tends a b c e → (IsQuiet c → e ≡ c) → MatchOn a b cs aw (set cs i e) aw
 on_passed a b cs aw i c e below is tends same = λ m r s.
     let own : MatchesConnection m c = subst (λ z. MatchesConnection m z) (sym is) (each_at (λ x. MatchesConnection m x) cs i c s.suit below) in
-    let rests : IsAwakeOrQuiet aw c = subst (λ z. IsAwakeOrQuiet aw z) (sym is) (each_at (λ x. IsAwakeOrQuiet aw x) cs i c s.asleep below) in
     let t = tends m r s.numbered own in
     let g : GoesOn (get_or cs i c).id.0 m t.0 = subst (λ z. GoesOn z.id.0 m t.0) is t.2 in (
       t.0,
@@ -763,57 +668,50 @@ on_passed a b cs aw i c e below is tends same = λ m r s.
         numbered = g.numbered;
         suit = each_set (λ x. MatchesConnection m x) (λ x. MatchesConnection t.0 x) cs i c e s.rise below (λ x never suits. suits_same m t.0 x (g.others x.id.0 never) g.next suits) s.suit t.4;
         rise = rise_set cs i c e s.rise below (t.3 ∙ ap (λ z. z.id) is);
-        asleep = each_put (λ x. IsAwakeOrQuiet aw x) cs i e s.asleep (still_rests rests t.3);
+        asleep = asleep_set aw cs i e (by_case (s.asleep i below)) s.asleep;
       },
     )
   where
-    still_rests : IsAwakeOrQuiet aw c → e.id ≡ c.id → IsAwakeOrQuiet aw e
-    still_rests (inl has) id = inl (subst (λ k. Has aw k.0) (sym id) has)
-    still_rests (inr quiet) id = inr (subst IsQuiet (sym (same quiet)) quiet)
+    by_case : IsWithin aw i ⊎ HoldsAt (λ x. IsQuiet x) cs i → IsWithin aw i ⊎ IsQuiet e
+    by_case (inl within) = inl within
+    by_case (inr quiet) = let q : IsQuiet c = subst (λ x. IsQuiet x) (sym is) (quiet c) in inr (subst (λ x. IsQuiet x) (sym (same q)) q)
 
-pub visits_tended : (a b : Running) (cs : List Client) (aw : List ℕ) (p i : ℕ) (c f e : Client) (still : Type 0) → i < length cs → p < length aw → ((d : Client) (x : ℕ) → get_or aw p x ≡ (get_or cs i d).id.0) → c ≡ get_or cs i c
-    → Tends a b c e → (still → Waits f e × IsServed e) → (f.blocked ≡ false → IsSent f.pending) → (f.phase ≡ phase.Closed → IsSent f.pending → ⊥) → VisitsAt a b cs (set cs i e) aw p still
-visits_tended a b cs aw p i c f e still below inside at is tends rests sent over = λ m r s.
+pub visits_tended : (a b : Running) (cs : List Client) (aw : Awake) (i : ℕ) (c f e : Client) (still : Type 0) → i < length cs → IsWithin aw i → c ≡ get_or cs i c → Tends a b c e → (still → Waits f e × IsServed e)
+    → (f.blocked ≡ false → IsSent f.pending) → (f.phase ≡ phase.Closed → IsSent f.pending → ⊥) → VisitsAt a b cs aw (set cs i e) aw i still
+visits_tended a b cs aw i c f e still below within is tends rests sent over = λ m r s.
     let t = tends m r s.numbered (subst (λ z. MatchesConnection m z) (sym is) (each_at (λ x. MatchesConnection m x) cs i c s.suit below)) in
-    let same : e.id ≡ (get_or cs i c).id = t.3 ∙ ap (λ z. z.id) is in
     let g : GoesOn (get_or cs i c).id.0 m t.0 = subst (λ z. GoesOn z.id.0 m t.0) is t.2 in (
       t.0,
       t.1,
-      stands_set m t.0 cs aw aw i c e s below g same t.4 (has_at aw p e.id.0 0 inside (at c 0 ∙ ap (λ k. k.0) (sym same))) (λ k h. h),
-      λ h due. let w = rests h in due_set m t.0 cs aw p i c e s.rise below (at c) g (rests_visited t.0 f e t.4 w.0 w.1 sent over) due,
+      stands_set m t.0 cs aw aw i c e s below g (t.3 ∙ ap (λ z. z.id) is) t.4 within (λ j h. h),
+      λ h rest. let w = rests h in rest_set m t.0 cs i c e s.rise below g (rests_visited t.0 f e t.4 w.0 w.1 sent over) rest,
     )
 
 -- ---- rounds
 
 -- the clients stand, and while nothing was done those that were visited rest
-pub record Round (a b : Running) (cs : List Client) (aw : List ℕ) (ds : List Client) (bw : List ℕ) (p : ℕ) (still : Type 0) : Type 0 where
-  pub goes : (m : Machine) → Refines a m → AllMatch m cs aw → (n : Machine) × Refines b n × AllMatch n ds bw × (still → AreDue n ds (drop p bw))
+pub record Round (a b : Running) (cs : List Client) (aw : Awake) (ds : List Client) (bw : Awake) (p : ℕ) (still : Type 0) : Type 0 where
+  pub goes : (m : Machine) → Refines a m → AllMatch m cs aw → (n : Machine) × Refines b n × AllMatch n ds bw × (still → RestBefore n p ds)
 
-pub round_first : (a b : Running) (cs : List Client) (aw : List ℕ) (still : Type 0) → PassesBy a b → Round a b cs aw cs aw 0 still
+pub round_first : (a b : Running) (cs : List Client) (aw : Awake) (still : Type 0) → PassesBy a b → Round a b cs aw cs aw aw.start still
 round_first a b cs aw still by = record {
   goes = λ m r s.
       let t = by m r in
       let stands = stands_by m t.0 cs aw t.2 s in
-      (t.0, t.1, stands, λ h. due_first t.0 cs aw stands);
+      (t.0, t.1, stands, λ h. rest_first t.0 cs aw stands);
 }
 
--- one visit more, after which the connection may sleep
-pub round_next : (a b x : Running) (cs ds es fs : List Client) (aw bw vw xw : List ℕ) (p q : ℕ) (still now later : Type 0) → (later → still × now) → Round a b cs aw ds bw p still → VisitsAt b x ds es bw p now → vw ≡ bw
-    → ((m : Machine) → AllMatch m es vw → AllMatch m fs xw) → fs ≡ es → drop q xw ≡ drop (suc p) vw → Round a x cs aw fs xw q later
-round_next a b x cs ds es fs aw bw vw xw p q still now later before one visit same sleeps are next = record {
+-- one visit more
+pub round_next : (a b x : Running) (cs ds es : List Client) (aw bw xw : Awake) (p : ℕ) (still now later : Type 0) → (later → still × now) → Round a b cs aw ds bw p still → VisitsAt b x ds bw es xw p now → Round a x cs aw es xw (p + 1) later
+round_next a b x cs ds es aw bw xw p still now later before one visit = record {
   goes = λ m r s.
       let t = one.goes m r s in
       let u = visit t.0 t.1 t.2 in
-      let rest : drop q xw ≡ drop (suc p) bw = next ∙ ap (λ ks. drop (suc p) ks) same in (
-        u.0,
-        u.1,
-        sleeps u.0 (subst (λ ks. AllMatch u.0 es ks) (sym same) u.2),
-        λ h. subst (λ ks. AreDue u.0 fs ks) (sym rest) (subst (λ xs. AreDue u.0 xs (drop (suc p) bw)) (sym are) (u.3 (before h).1 (t.3 (before h).0))),
-      );
+      (u.0, u.1, u.2, λ h. u.3 (before h).1 (t.3 (before h).0));
 }
 
 -- between two visits watches may be moved on; if none was, all is as before
-pub round_passed : (a b x : Running) (cs ds es : List Client) (aw bw xw : List ℕ) (p : ℕ) (still later : Type 0) (passed : Progress) → (later → still × (passed ≡ progress.Still)) → Round a b cs aw ds bw p still → MatchOn b x ds bw es xw → xw ≡ bw
+pub round_passed : (a b x : Running) (cs ds es : List Client) (aw bw xw : Awake) (p : ℕ) (still later : Type 0) (passed : Progress) → (later → still × (passed ≡ progress.Still)) → Round a b cs aw ds bw p still → MatchOn b x ds bw es xw → xw ≡ bw
     → (passed ≡ progress.Still → (x ≡ b) × (es ≡ ds)) → Round a x cs aw es xw p later
 round_passed a b x cs ds es aw bw xw p still later progress.Still before one stands also same = record {
   goes = λ m r s.
@@ -822,7 +720,7 @@ round_passed a b x cs ds es aw bw xw p still later progress.Still before one sta
         t.0,
         subst (λ z. Refines z t.0) (sym are.0) t.1,
         subst (λ xs. AllMatch t.0 xs xw) (sym are.1) (subst (λ ks. AllMatch t.0 ds ks) (sym also) t.2),
-        λ h. subst (λ xs. AreDue t.0 xs (drop p xw)) (sym are.1) (subst (λ ks. AreDue t.0 ds (drop p ks)) (sym also) (t.3 (before h).0)),
+        λ h. subst (λ xs. RestBefore t.0 p xs) (sym are.1) (t.3 (before h).0),
       );
 }
 round_passed a b x cs ds es aw bw xw p still later progress.Made before one stands also same = record {
@@ -838,31 +736,25 @@ round_passed a b x cs ds es aw bw xw p still later progress.Starved before one s
       (u.0, u.1, u.2, λ h. absurd (starved_not_still (before h).1));
 }
 
-pub round_last : (a b : Running) (cs ds : List Client) (aw bw : List ℕ) (p : ℕ) (still : Type 0) → length bw ≤ p → Round a b cs aw ds bw p still → SettlesOn a b cs aw ds bw still
+pub round_last : (a b : Running) (cs ds : List Client) (aw bw : Awake) (p : ℕ) (still : Type 0) → bw.end ≤ p → Round a b cs aw ds bw p still → SettlesOn a b cs aw ds bw still
 round_last a b cs ds aw bw p still past one = λ m r s.
     let t = one.goes m r s in
-    (t.0, t.1, t.2, λ h. due_last t.0 ds (drop p bw) (drop_all p bw past) (t.3 h))
+    (t.0, t.1, t.2, λ h. rest_last t.0 ds bw p past t.2 (t.3 h))
 
 -- behind the visits those that watch were woken, unless nothing was to be done
-pub settles_woken : (a b : Running) (cs ds es : List Client) (aw bw xw : List ℕ) (still now later : Type 0) → (later → still × now) → SettlesOn a b cs aw ds bw still → ((m : Machine) → AllMatch m ds bw → AllMatch m es xw) → (now → es ≡ ds)
+pub settles_woken : (a b : Running) (cs ds es : List Client) (aw bw xw : Awake) (still now later : Type 0) → (later → still × now) → SettlesOn a b cs aw ds bw still → ((m : Machine) → AllMatch m ds bw → AllMatch m es xw) → (now → es ≡ ds)
     → SettlesOn a b cs aw es xw later
 settles_woken a b cs ds es aw bw xw still now later before one woken same = λ m r s.
     let t = one m r s in
     (t.0, t.1, woken t.0 t.2, λ h. subst (λ xs. AreAtRest t.0 xs) (sym (same (before h).1)) (t.3 (before h).0))
 
-pub settles_on : (a b x : Running) (cs ds es : List Client) (aw bw xw : List ℕ) (still : Type 0) → MatchOn a b cs aw ds bw → SettlesOn b x ds bw es xw still → SettlesOn a x cs aw es xw still
+pub settles_on : (a b x : Running) (cs ds es : List Client) (aw bw xw : Awake) (still : Type 0) → MatchOn a b cs aw ds bw → SettlesOn b x ds bw es xw still → SettlesOn a x cs aw es xw still
 settles_on a b x cs ds es aw bw xw still one other = λ m r s.
     let t = one m r s in
     other t.0 t.1 t.2
 
 -- what settles stands
-pub on_settled : (a b : Running) (cs ds : List Client) (aw bw : List ℕ) (still : Type 0) → SettlesOn a b cs aw ds bw still → MatchOn a b cs aw ds bw
+pub on_settled : (a b : Running) (cs ds : List Client) (aw bw : Awake) (still : Type 0) → SettlesOn a b cs aw ds bw still → MatchOn a b cs aw ds bw
 on_settled a b cs ds aw bw still one = λ m r s.
     let t = one m r s in
     (t.0, t.1, t.2)
-
--- ---- results
-
-pub on_ok : {X E : Type 0} (r : Result X E) (P : Type 0) → OnOk r P → is_err r ≡ false → P
-on_ok (Ok x) P h fine = h
-on_ok (Err e) P h fine = absurd (true≢false fine)

@@ -1,4 +1,4 @@
-ghost use Rattle.std.specs.Prelude.{◌≡◌, ◌⊎◌, ◌<◌, ◌≤◌, ◌+◌, ℕ, List, Option, [], ◌∷◌, ◌++◌, drop, true, None, IfSome, OnOk, ◌==◌, length, map, option_map, set, suc, false, vec_len, vec_capacity};
+ghost use Rattle.std.specs.Prelude.{◌≡◌, ◌⊎◌, ◌<◌, ◌≤◌, ℕ, List, Option, [], ◌∷◌, ◌++◌, true, None, IfSome, ◌==◌, length, map, option_map, set, suc, false, vec_len, vec_capacity};
 ghost use Rattle.std.specs.List.{HoldsAt, position};
 ghost use Rattle.kapi_core.specs.Fingerprints.{fingerprint_on, is_among, is_concerned};
 ghost use Rattle.kapi_core.specs.Machine.{Machine, link_at};
@@ -7,13 +7,13 @@ ghost use Rattle.kapi_serve.specs.Acts.{IsFree};
 ghost use Rattle.kapi_serve.specs.Advances.{Advances};
 ghost use Rattle.kapi_serve.specs.Private.Clients.{freed, freed_on, others, seats_of};
 ghost use Rattle.kapi_serve.specs.Private.ServerStates.{Ends, FeedsOrEnds, Moves, MovesAfter, stage, unasked};
-ghost use Rattle.kapi_serve.specs.Private.ClientsMatch.{AreCalled, AreMarked, AreRoused, IsAwakeAt, IsNew, IsNumbered, IsOf, IsOfNone, Rise, ClientsMatch, ClientsMatchAfter};
+ghost use Rattle.kapi_serve.specs.Private.ClientsMatch.{AreCalled, AreMarked, AreRoused, IsNew, IsNumbered, IsQuiet, IsWithin, ClientsMatch, ClientsMatchAfter};
 ghost use Rattle.kapi_serve.specs.declared.client.Client.{Client as AClient};
 ghost use Rattle.kapi_serve.specs.declared.client.Phase.TheVariants as phase;
 ghost use Rattle.kapi_serve.specs.declared.port.Entry.TheVariants as entry;
 ghost use Rattle.kapi_serve.specs.declared.progress.Progress.TheVariants as progress;
 
-use crate::awake::ReadySet;
+use crate::awake::Awake;
 use crate::client::{Client, Phase};
 use crate::marks::{MARKS, marks_of};
 use crate::pending::Pending;
@@ -24,7 +24,6 @@ use kapi_core::{ConnId, Core};
 use kapi_desk::Desk;
 use kapi_model::Identity;
 use kapi_policy::Policy;
-use kapi_text::Memory;
 use std::alloc::Global;
 use std::sync::Wait;
 
@@ -39,8 +38,9 @@ const PLACES: usize = 512;
 pub(crate) struct Clients {
     alloc: Global,
     pub(crate) list: Vec<Client>,
-    /// The connections at which something may be done before their slots report anything, or the objects change.
-    pub(crate) awake: ReadySet,
+    /// Where something may be done before a slot reports anything, or the objects change. It is a pair of places, so
+    /// that no memory is needed to wake a connection.
+    pub(crate) awake: Awake,
     /// The revision of the objects when connections were last woken for a change.
     pub(crate) woken: u64,
     /// The revision when each watch was last woken or moved on.
@@ -68,7 +68,7 @@ impl Clients {
         Clients {
             alloc,
             list: Vec::new(alloc),
-            awake: ReadySet::new(alloc),
+            awake: Awake { start: 0, end: 0 },
             woken: 0,
             roused: 0,
             tried: 0,
@@ -76,33 +76,33 @@ impl Clients {
         }
     }
 
-    /// The place of one of the awake connections, if it is still there.
-    pub(crate) fn awake_at(&self, position: usize) -> Option<usize>
-        ensures bound { IfSome result (λ i. i < length self.now.list.items) }
-        ensures found { IfSome result (λ i. IsOf position i self.now) }
-        ensures inside { IfSome result (λ i. position < length self.now.awake.numbers.items) }
-        ensures absent { result ≡ None → Rise self.now.list.items → IsOfNone position self.now }
+    /// Whether there is a connection at a place, at which something may be done.
+    pub(crate) fn is_awake(&self, place: usize) -> bool
+        ensures bound { result ≡ true → place < length self.now.list.items }
+        ensures quiet { result ≡ false → place < length self.now.list.items → HoldsAt (λ client. IsQuiet client) self.now.list.items place }
     {
-        let id = self.awake.get(position)?;
-        self.list
-            .binary_search_by_key(&id.0, |client| client.id.0)
-            .ok()
+        match self.list.get(place) {
+            Some(client) => !client.is_quiet(),
+            None => false,
+        }
     }
 
-    /// Lets one of the awake connections sleep, if nothing can be done at it. Returns the position of the next one.
-    pub(crate) fn pass(&mut self, position: usize) -> usize
+    /// Narrows the awake places to those from the first to the last at which something may be done.
+    pub(crate) fn narrow(&mut self)
         ensures list { self.new.list ≡ self.old.list }
         ensures stands { (m : Machine) → ClientsMatch m self.old → ClientsMatch m self.new }
-        ensures next { drop result self.new.awake.numbers.items ≡ drop (suc position) self.old.awake.numbers.items }
-        ensures left { position < length self.old.awake.numbers.items → length self.new.awake.numbers.items + suc position ≡ length self.old.awake.numbers.items + result }
     {
-        match self.awake_at(position) {
-            Some(index) if !self.list[index].is_quiet() => position + 1,
-            _ => {
-                self.awake.remove(position);
-                position
+        let (mut start, mut end) = (self.awake.start, self.awake.end);
+        while start < end {
+            if !self.is_awake(start) {
+                start += 1;
+            } else if !self.is_awake(end - 1) {
+                end -= 1;
+            } else {
+                break;
             }
         }
+        self.awake = Awake { start, end };
     }
 
     /// Opens a connection for a client; its slot is ended if there is no room for it.
@@ -117,7 +117,7 @@ impl Clients {
         ensures stands { ClientsMatchAfter core.old core.new self.old self.new }
     {
         self.forget(core, slot);
-        if self.reserve().is_err() {
+        if self.list.reserve(1).is_err() {
             return ports.end(slot);
         }
         match core.open(identity) {
@@ -126,21 +126,11 @@ impl Clients {
         }
     }
 
-    /// Makes room for one connection more.
-    fn reserve(&mut self) -> Result<(), Memory>
-        ensures items { self.new.list.items ≡ self.old.list.items }
-        ensures awake { self.new.awake.numbers.items ≡ self.old.awake.numbers.items }
-        ensures room { OnOk result (vec_len self.new.list < vec_capacity self.new.list) }
-    {
-        self.awake.reserve(self.list.len())?;
-        self.list.reserve(1)
-    }
-
     fn add(&mut self, slot: usize, id: ConnId)
         requires { vec_len self.old.list < vec_capacity self.old.list }
         ensures seats { seats_of self.new.list.items ≡ seats_of self.old.list.items ++ record { slot = slot; conn = id; owed = [] } ∷ [] }
         ensures fresh { (client : AClient) × (self.new.list.items ≡ self.old.list.items ++ client ∷ []) × (client.id ≡ id) × IsNew client }
-        ensures awake { self.new.awake.numbers.items ≡ self.old.awake.numbers.items }
+        ensures awake { self.new.awake ≡ self.old.awake }
     {
         self.list.push_reserved(Client {
             slot,
@@ -205,6 +195,7 @@ impl Clients {
     {
         while let Some(index) = self.place(slot) {
             let client = self.list.remove(index);
+            self.awake.lower();
             core.close(client.id);
         }
     }
@@ -220,6 +211,7 @@ impl Clients {
         ensures { Ends index core.old core.new self.old self.new (Q.report ports.old) (Q.report ports.new) }
     {
         let client = self.list.remove(index);
+        self.awake.lower();
         core.close(client.id);
         ports.end(client.slot);
     }
@@ -229,7 +221,7 @@ impl Clients {
         ensures moves { Moves core.old core.new self.old self.new (Q.report ports.old) (Q.report ports.new) }
         ensures stands { ClientsMatchAfter core.old core.new self.old self.new }
     {
-        for _ in 0..self.awake.len() {
+        for _ in self.awake.start..self.awake.end {
             let Some(index) = self.next_held() else {
                 return;
             };
@@ -290,69 +282,61 @@ impl Clients {
     {
         self.tried = self.list[index].id.0;
         self.list[index].held = false;
+        self.awake.add(index);
     }
 
     /// Notes that a slot takes bytes again, and wakes its connection.
-    pub(crate) fn unblock(&mut self, slot: usize) -> Progress
-        ensures freed { result ≡ progress.Still → self.new.list.items ≡ freed_on slot self.old.list.items }
-        ensures starved { (result ≡ progress.Still) ⊎ ((result ≡ progress.Starved) × (self.new.list.items ≡ self.old.list.items)) }
+    pub(crate) fn unblock(&mut self, slot: usize)
+        ensures freed { self.new.list.items ≡ freed_on slot self.old.list.items }
         ensures seats { seats_of self.new.list.items ≡ seats_of self.old.list.items }
         ensures stands { (m : Machine) → ClientsMatch m self.old → ClientsMatch m self.new }
     {
         match self.place(slot) {
             Some(index) => self.free(index),
-            None => Progress::Still,
+            None => {}
         }
     }
 
-    /// Notes that all slots may take bytes again, and wakes the connections whose slots took none.
-    pub(crate) fn unblock_all(&mut self) -> Progress
-        ensures freed { result ≡ progress.Still → self.new.list.items ≡ map freed self.old.list.items }
+    /// Notes that all slots may take bytes again, and wakes the connections.
+    pub(crate) fn unblock_all(&mut self)
+        ensures freed { self.new.list.items ≡ map freed self.old.list.items }
         ensures seats { seats_of self.new.list.items ≡ seats_of self.old.list.items }
         ensures stands { (m : Machine) → ClientsMatch m self.old → ClientsMatch m self.new }
     {
-        let mut progress = Progress::Still;
         for index in 0..self.list.len() {
-            progress = progress.and(self.free(index));
+            self.free(index);
         }
-        progress
     }
 
     /// Notes that the slot of the connection at a place takes bytes again, and wakes the connection.
-    fn free(&mut self, index: usize) -> Progress
+    fn free(&mut self, index: usize)
         requires { index < length self.old.list.items }
-        ensures freed { result ≡ progress.Still → HoldsAt (λ client. self.new.list.items ≡ set self.old.list.items index (freed client)) self.old.list.items index }
-        ensures starved { (result ≡ progress.Still) ⊎ ((result ≡ progress.Starved) × (self.new.list.items ≡ self.old.list.items)) }
+        ensures freed { HoldsAt (λ client. self.new.list.items ≡ set self.old.list.items index (freed client)) self.old.list.items index }
         ensures count { length self.new.list.items ≡ length self.old.list.items }
         ensures seats { seats_of self.new.list.items ≡ seats_of self.old.list.items }
         ensures stands { (m : Machine) → ClientsMatch m self.old → ClientsMatch m self.new }
     {
-        if !self.list[index].blocked {
-            return Progress::Still;
-        }
-        if self.awake.add(self.list[index].id).is_err() {
-            return Progress::Starved;
-        }
         self.list[index].blocked = false;
-        Progress::Still
+        self.awake.add(index);
     }
 
-    /// Before the DELETE of an awake connection is answered, moves each watch on: the request may make as many changes
-    /// at once as are kept.
+    /// Before the DELETE of the connection at a place is answered, moves each watch on: the request may make as many
+    /// changes at once as are kept.
     pub(crate) fn pass_before<R: Wait, P: Policy + Drop>(
         &mut self,
         rt: &R,
         core: &mut Core<P>,
         desk: &mut Desk,
         publishing: &mut Publishing,
-        position: usize,
+        index: usize,
     ) -> Progress
         ensures goes { Advances (stage core.old desk.old publishing.old (seats_of self.old.list.items)) (stage core.new desk.new publishing.new (seats_of self.new.list.items)) }
         ensures stands { ClientsMatchAfter core.old core.new self.old self.new }
         ensures awake { self.new.awake ≡ self.old.awake }
         ensures still { result ≡ progress.Still → (core.new ≡ core.old) × (self.new.list ≡ self.old.list) }
+        ensures unstarved { (result ≡ progress.Still) ⊎ (result ≡ progress.Made) }
     {
-        if !self.is_before_deletion(core, position) {
+        if !self.is_before_deletion(core, index) {
             return Progress::Still;
         }
         self.pass_watches(rt, core, desk, publishing);
@@ -361,10 +345,10 @@ impl Clients {
     }
 
     /// Whether an awake connection may answer a DELETE next, and the objects have changed since watches were moved on.
-    fn is_before_deletion<P: Policy + Drop>(&self, core: &Core<P>, position: usize) -> bool {
-        let Some(index) = self.awake_at(position) else {
+    fn is_before_deletion<P: Policy + Drop>(&self, core: &Core<P>, index: usize) -> bool {
+        if !self.is_awake(index) {
             return false;
-        };
+        }
         let client = &self.list[index];
         client.fed && self.roused != core.revision() && core.is_deletion(client.id)
     }
@@ -404,24 +388,21 @@ impl Clients {
         self.list[index].pass(rt, core, desk, publishing);
     }
 
-    /// Wakes each connection whose watch may be concerned by a change since the last waking. If memory runs out, the
-    /// next call tries again.
+    /// Wakes each connection whose watch may be concerned by a change since the last waking.
     pub(crate) fn wake<P: Policy + Drop>(&mut self, core: &Core<P>) -> Progress
         ensures seats { seats_of self.new.list.items ≡ seats_of self.old.list.items }
         ensures stands { (m : Machine) → ClientsMatch m self.old → ClientsMatch m self.new }
-        ensures still { result ≡ progress.Still → (self.new ≡ self.old) × (self.new.woken ≡ core.now.store.revision) }
-        ensures woken { result ≡ progress.Made → self.new.woken ≡ core.now.store.revision }
+        ensures still { result ≡ progress.Still → self.new ≡ self.old }
+        ensures unstarved { (result ≡ progress.Still) ⊎ (result ≡ progress.Made) }
+        ensures woken { self.new.woken ≡ core.now.store.revision }
         ensures made { result ≡ progress.Made → (m : Machine) → Refines core.now m → ClientsMatch m self.old → AreRoused m self.old.woken self.new.list.items }
-        ensures starved { result ≡ progress.Starved → self.new.woken ≡ self.old.woken }
     {
         let revision = core.revision();
         if revision == self.woken {
             return Progress::Still;
         }
         let concerned = self.concerned(core);
-        if !self.rouse_all(&concerned) {
-            return Progress::Starved;
-        }
+        self.rouse_all(&concerned);
         self.woken = revision;
         self.roused = match concerned {
             Some(_) => self.roused,
@@ -431,22 +412,17 @@ impl Clients {
     }
 
     /// Wakes each connection whose watch has its fingerprint in the list; without a list, each connection with a watch.
-    /// False if memory ran out for one of them.
-    fn rouse_all(&mut self, concerned: &Option<Vec<u64>>) -> bool
+    fn rouse_all(&mut self, concerned: &Option<Vec<u64>>)
         ensures seats { seats_of self.new.list.items ≡ seats_of self.old.list.items }
         ensures stands { (m : Machine) → ClientsMatch m self.old → ClientsMatch m self.new }
-        ensures woken { self.new.woken ≡ self.old.woken }
-        ensures roused { result ≡ true → AreCalled (option_map (λ v. v.items) concerned.now) (length self.new.list.items) self.new.list.items }
+        ensures roused { AreCalled (option_map (λ v. v.items) concerned.now) (length self.new.list.items) self.new.list.items }
     {
         let marks = marks_of(concerned);
-        let (mut all, mut from) = (true, 0);
+        let mut from = 0;
         while let Some(index) = self.first_called(from, &marks, concerned) {
-            if !self.rouse(index) {
-                all = false;
-            }
+            self.rouse(index);
             from = index + 1;
         }
-        all
     }
 
     /// The place of the next connection, from a place on, whose watch has its fingerprint in the list; without a list,
@@ -485,26 +461,20 @@ impl Clients {
         core.fingerprints_after(self.woken)
     }
 
-    /// Wakes the connection at a place and marks its watch as having something to show. False if memory does not
-    /// suffice.
+    /// Wakes the connection at a place and marks its watch as having something to show.
     #[tactic(auto, using(crate::proofs::Tending::called_set))]
-    fn rouse(&mut self, index: usize) -> bool
+    fn rouse(&mut self, index: usize)
         requires { index < length self.old.list.items }
         ensures seats { seats_of self.new.list.items ≡ seats_of self.old.list.items }
         ensures count { length self.new.list.items ≡ length self.old.list.items }
         ensures stands { (m : Machine) → ClientsMatch m self.old → ClientsMatch m self.new }
-        ensures woken { self.new.woken ≡ self.old.woken }
-        ensures roused { result ≡ true → (concerned : Option (List ℕ)) → AreCalled concerned index self.old.list.items
-            → AreCalled concerned (suc index) self.new.list.items }
+        ensures roused { (concerned : Option (List ℕ)) → AreCalled concerned index self.old.list.items → AreCalled concerned (suc index) self.new.list.items }
     {
-        if self.awake.add(self.list[index].id).is_err() {
-            return false;
-        }
         self.list[index].shown = false;
-        true
+        self.awake.add(index);
     }
 
-    /// Reads a piece from a slot and feeds it. A connection that cannot be noted as awake is closed.
+    /// Reads a piece from a slot and feeds it.
     pub(crate) fn read_slot<P: Policy + Drop, Q: Ports>(
         &mut self,
         core: &mut Core<P>,
@@ -541,10 +511,7 @@ impl Clients {
         if self.list[index].phase != Phase::Open {
             return Pulled::Stopped;
         }
-        if self.awake.add(self.list[index].id).is_err() {
-            self.end(core, ports, index);
-            return Pulled::Stopped;
-        }
+        self.awake.add(index);
         match ports.read(slot, buffer) {
             Ok(0) => {
                 self.reach_end(index);
@@ -563,7 +530,7 @@ impl Clients {
     fn reach_end(&mut self, index: usize)
         requires { index < length self.old.list.items }
         ensures seats { seats_of self.new.list.items ≡ seats_of self.old.list.items }
-        ensures stands { IsAwakeAt index self.old → (m : Machine) → ClientsMatch m self.old → ClientsMatch m self.new }
+        ensures stands { IsWithin self.old.awake index → (m : Machine) → ClientsMatch m self.old → ClientsMatch m self.new }
     {
         let client = &mut self.list[index];
         client.phase = Phase::Ending;
@@ -580,7 +547,7 @@ impl Clients {
     ) -> Pulled
         requires bound { index < length self.old.list.items }
         requires reading { HoldsAt (λ client. client.phase ≡ phase.Open) self.old.list.items index }
-        ensures stands { IsAwakeAt index self.old → ClientsMatchAfter core.old core.new self.old self.new }
+        ensures stands { IsWithin self.old.awake index → ClientsMatchAfter core.old core.new self.old self.new }
         ensures feeds { FeedsOrEnds index piece.now core.old core.new self.old self.new (Q.report ports.old) (Q.report ports.new) }
     {
         match core.feed(self.list[index].id, piece) {

@@ -1,7 +1,7 @@
-ghost use Rattle.std.specs.Prelude.{◌≡◌, ℕ, [], map};
+ghost use Rattle.std.specs.Prelude.{◌≡◌, ◌≤◌, ℕ, [], map};
 ghost use Rattle.kapi_serve.specs.Private.Clients.{freed, freed_on};
 ghost use Rattle.kapi_serve.specs.Private.ServerStates.{AdvancesAfter, AdvancesFor, at, stage};
-ghost use Rattle.kapi_serve.specs.Private.ClientsMatch.{IsServed, Settles, ClientsMatchAfter, Tends, Visits, Waits};
+ghost use Rattle.kapi_serve.specs.Private.ClientsMatch.{IsServed, IsWithin, Settles, ClientsMatchAfter, Tends, Visits, Waits};
 ghost use Rattle.kapi_serve.specs.Advances.{Advances, Serves};
 ghost use Rattle.kapi_serve.specs.declared.port.PortEvent.TheVariants as happened;
 ghost use Rattle.kapi_serve.specs.declared.progress.Progress.TheVariants as progress;
@@ -65,16 +65,15 @@ impl Server {
     ) -> Progress
         ensures goes { AdvancesAfter event (at core.old desk.old self.old (Q.report ports.old)) (at core.new desk.new self.new (Q.report ports.new)) }
         ensures settles { Settles core.old core.new self.old.clients self.new.clients (result ≡ progress.Still) }
-        ensures woken { result ≡ progress.Still → self.new.clients.woken ≡ core.new.store.revision }
+        ensures woken { self.new.clients.woken ≡ core.new.store.revision }
     {
         self.publishing.retry(rt, desk);
-        let _noted = self.take(rt, core, desk, ports, buffer, event);
+        self.take(rt, core, desk, ports, buffer, event);
         self.clients.retry(core, ports);
         self.settle(rt, core, desk, ports)
     }
 
-    /// Takes in an event of the ports, unless memory does not suffice to wake a connection whose slot takes bytes
-    /// again.
+    /// Takes in an event of the ports.
     fn take<R: Wait, P: Policy + Drop, Q: Ports>(
         &mut self,
         rt: &R,
@@ -83,21 +82,15 @@ impl Server {
         ports: &mut Q,
         buffer: &mut [u8],
         event: PortEvent,
-    ) -> Progress
+    )
         ensures goes { AdvancesAfter event (at core.old desk.old self.old (Q.report ports.old)) (at core.new desk.new self.new (Q.report ports.new)) }
         ensures stands { ClientsMatchAfter core.old core.new self.old.clients self.new.clients }
-        ensures writable { (slot : ℕ) → event ≡ happened.Writable slot → result ≡ progress.Still → self.new.clients.list.items ≡ freed_on slot self.old.clients.list.items }
-        ensures idle { event ≡ happened.Idle → result ≡ progress.Still → self.new.clients.list.items ≡ map freed self.old.clients.list.items }
+        ensures writable { (slot : ℕ) → event ≡ happened.Writable slot → self.new.clients.list.items ≡ freed_on slot self.old.clients.list.items }
+        ensures idle { event ≡ happened.Idle → self.new.clients.list.items ≡ map freed self.old.clients.list.items }
     {
         match event {
-            PortEvent::Opened(slot, identity) => {
-                self.clients.open(core, ports, slot, identity);
-                Progress::Still
-            }
-            PortEvent::Readable(slot) => {
-                self.read(rt, core, desk, ports, slot, buffer);
-                Progress::Still
-            }
+            PortEvent::Opened(slot, identity) => self.clients.open(core, ports, slot, identity),
+            PortEvent::Readable(slot) => self.read(rt, core, desk, ports, slot, buffer),
             PortEvent::Writable(slot) => self.clients.unblock(slot),
             PortEvent::Idle => self.clients.unblock_all(),
         }
@@ -136,7 +129,7 @@ impl Server {
     ) -> Progress
         ensures goes { Advances (at core.old desk.old self.old (Q.report ports.old)) (at core.new desk.new self.new (Q.report ports.new)) }
         ensures settles { Settles core.old core.new self.old.clients self.new.clients (result ≡ progress.Still) }
-        ensures woken { result ≡ progress.Still → self.new.clients.woken ≡ core.new.store.revision }
+        ensures woken { self.new.clients.woken ≡ core.new.store.revision }
     {
         for _ in rt.forever() {
             let progress = self.round(rt, core, desk, ports);
@@ -148,7 +141,7 @@ impl Server {
     }
 
     /// Goes once over the connections at which something may be done, and then wakes those with a watch that a change
-    /// may concern.
+    /// may concern. One that moves up as another leaves is visited in the next round.
     fn round<R: Wait, P: Policy + Drop, Q: Ports>(
         &mut self,
         rt: &R,
@@ -158,38 +151,40 @@ impl Server {
     ) -> Progress
         ensures goes { Advances (at core.old desk.old self.old (Q.report ports.old)) (at core.new desk.new self.new (Q.report ports.new)) }
         ensures settles { Settles core.old core.new self.old.clients self.new.clients (result ≡ progress.Still) }
-        ensures woken { result ≡ progress.Still → self.new.clients.woken ≡ core.new.store.revision }
+        ensures woken { self.new.clients.woken ≡ core.new.store.revision }
     {
         let mut progress = self.publishing.make_turns(rt, core, desk);
-        let mut position = 0;
-        while position < self.clients.awake.len() {
+        for index in self.clients.awake.start..self.clients.awake.end {
             let passed = self
                 .clients
-                .pass_before(rt, core, desk, &mut self.publishing, position);
+                .pass_before(rt, core, desk, &mut self.publishing, index);
             let before = progress.and(passed);
-            let visited = self.visit(rt, core, desk, ports, position);
+            let visited = self.visit(rt, core, desk, ports, index);
             progress = before.and(visited);
-            position = self.clients.pass(position);
         }
+        self.clients.narrow();
         progress.and(self.clients.wake(core))
     }
 
-    /// Writes, serves and pumps an awake connection, and makes the turns that follow.
+    /// Writes, serves and pumps the connection at a place, if something may be done there, and makes the turns that
+    /// follow.
     fn visit<R: Wait, P: Policy + Drop, Q: Ports>(
         &mut self,
         rt: &R,
         core: &mut Core<P>,
         desk: &mut Desk,
         ports: &mut Q,
-        position: usize,
+        index: usize,
     ) -> Progress
+        requires { IsWithin self.old.clients.awake index }
         ensures goes { Advances (at core.old desk.old self.old (Q.report ports.old)) (at core.new desk.new self.new (Q.report ports.new)) }
-        ensures visits { Visits core.old core.new self.old.clients self.new.clients position (result ≡ progress.Still) }
-        ensures awake { self.new.clients.awake.numbers.items ≡ self.old.clients.awake.numbers.items }
+        ensures visits { Visits core.old core.new self.old.clients self.new.clients index (result ≡ progress.Still) }
+        ensures start { self.new.clients.awake.start ≤ self.old.clients.awake.start }
+        ensures end { self.new.clients.awake.end ≡ self.old.clients.awake.end }
     {
-        let Some(index) = self.clients.awake_at(position) else {
+        if !self.clients.is_awake(index) {
             return Progress::Still;
-        };
+        }
         let client = &mut self.clients.list[index];
         let flushed = client.flush(rt, ports);
         if client.is_over(flushed) {

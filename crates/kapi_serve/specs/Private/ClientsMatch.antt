@@ -1,10 +1,9 @@
 -- What the loop keeps of its clients, and how that suits the connections of the machine.
-use Rattle.std.specs.Prelude.{◌≡◌, ◌⊎◌, ◌<◌, ◌≤◌, ◌%◌, ℕ, suc, Bool, true, false, List, [], ◌∷◌, drop, length, Option, Some, None, is_some}
+use Rattle.std.specs.Prelude.{◌≡◌, ◌⊎◌, ◌+◌, ◌<◌, ◌≤◌, ◌%◌, ℕ, suc, Bool, true, false, List, [], ◌∷◌, length, Option, Some, None, is_some}
 use Rattle.std.specs.List.{AllByRecursion, HoldsAt}
 use Rattle.std.specs.List.Sorted.{IsStrictlySortedBy}
 use Rattle.std.specs.Map.{keys_of}
 use Rattle.std.specs.Ordering.{nat_cmp}
-use Rattle.kapi_aggregation.specs.Members.{Has}
 use Rattle.kapi_core.specs.Fingerprints.{fingerprint_on, is_among, is_concerned}
 use Rattle.kapi_core.specs.Machine.{Link, Machine, link_at, serve_step}
 use Rattle.kapi_core.specs.Refines.{Makes, Refines}
@@ -14,6 +13,7 @@ use Rattle.kapi_core.specs.declared.event.Event.TheVariants as event
 use Rattle.kapi_serve.specs.Private.Clients.{seat_of}
 use Rattle.kapi_serve.specs.Private.Pieces.{IsCounted, owed}
 use Rattle.kapi_serve.specs.Rests.{AreAtRest, Rests}
+use Rattle.kapi_serve.specs.declared.awake.Awake.{Awake}
 use Rattle.kapi_serve.specs.declared.client.Client.{Client}
 use Rattle.kapi_serve.specs.declared.client.Phase.TheVariants as phase
 use Rattle.kapi_serve.specs.declared.clients.Clients.{Clients}
@@ -122,46 +122,37 @@ unfoldable pub Rise : List Client → Type 0
 Rise [] = Unit {0}
 Rise (c ∷ cs) = AllByRecursion (λ d. c.id.0 < d.id.0) cs × Rise cs
 
--- a client that sleeps is quiet
-abbrev pub IsAwakeOrQuiet : List ℕ → Client → Type 0
-IsAwakeOrQuiet awake c = Has awake c.id.0 ⊎ IsQuiet c
+-- a place is one of those that are awake
+abbrev pub IsWithin : Awake → ℕ → Type 0
+IsWithin awake place = (awake.start ≤ place) × (place < awake.end)
+
+-- a client outside of the places that are awake is quiet
+abbrev pub AreAsleep : Awake → List Client → Type 0
+AreAsleep awake cs = (i : ℕ) → i < length cs → IsWithin awake i ⊎ HoldsAt (λ c. IsQuiet c) cs i
 
 -- what is kept of the clients suits their connections, which are in order, and those that sleep are quiet
-pub record AllMatch (m : Machine) (cs : List Client) (awake : List ℕ) : Type 0 where
+pub record AllMatch (m : Machine) (cs : List Client) (awake : Awake) : Type 0 where
   pub numbered : IsNumbered m
   pub suit : AllByRecursion (λ c. MatchesConnection m c) cs
   pub rise : Rise cs
-  pub asleep : AllByRecursion (λ c. IsAwakeOrQuiet awake c) cs
+  pub asleep : AreAsleep awake cs
 
 -- what is kept of the clients that are served suits their connections
 abbrev pub ClientsMatch : Machine → Clients → Type 0
-ClientsMatch m cs = AllMatch m cs.list.items cs.awake.numbers.items
+ClientsMatch m cs = AllMatch m cs.list.items cs.awake
 
 -- the machine goes on, and what is kept of the clients suits it again
 abbrev pub ClientsMatchAfter : Running → Running → Clients → Clients → Type 0
 ClientsMatchAfter old new cs ds = (m : Machine) → Refines old m → ClientsMatch m cs → (n : Machine) × Refines new n × ClientsMatch n ds
 
--- the client at a place is awake
-abbrev pub IsAwakeAt : ℕ → Clients → Type 0
-IsAwakeAt index cs = HoldsAt (λ c. Has cs.awake.numbers.items c.id.0) cs.list.items index
+-- each client before a place rests
+abbrev pub RestBefore : Machine → ℕ → List Client → Type 0
+RestBefore m place cs = (i : ℕ) → i < place → i < length cs → HoldsAt (λ c. Rests m c) cs i
 
--- the awake connection at a position belongs to the client at a place
-abbrev pub IsOf : ℕ → ℕ → Clients → Type 0
-IsOf position index cs = HoldsAt (λ c. HoldsAt (λ number. number ≡ c.id.0) cs.awake.numbers.items position) cs.list.items index
-
--- the awake connection at a position, if there is one, belongs to no client
-abbrev pub IsOfNone : ℕ → Clients → Type 0
-IsOfNone position cs = position < length cs.awake.numbers.items → AllByRecursion (λ c. HoldsAt (λ number. number ≡ c.id.0 → ⊥) cs.awake.numbers.items position) cs.list.items
-
--- each client rests, or is yet to be visited
-abbrev pub AreDue : Machine → List Client → List ℕ → Type 0
-AreDue m cs rest = AllByRecursion (λ c. Rests m c ⊎ Has rest c.id.0) cs
-
--- the awake connection at a place was visited; if nothing could be done, its client rests
+-- the client at a place was visited; if nothing could be done, it rests, as those before it do
 abbrev pub Visits : Running → Running → Clients → Clients → ℕ → Type 0 → Type 0
 Visits old new cs ds place still = (m : Machine) → Refines old m → ClientsMatch m cs
-    → (n : Machine) × Refines new n × AllMatch n ds.list.items cs.awake.numbers.items
-    × (still → AreDue m cs.list.items (drop place cs.awake.numbers.items) → AreDue n ds.list.items (drop (suc place) cs.awake.numbers.items))
+    → (n : Machine) × Refines new n × ClientsMatch n ds × (still → RestBefore m place cs.list.items → RestBefore n (place + 1) ds.list.items)
 
 -- the clients were gone over; if nothing could be done, all rest
 abbrev pub Settles : Running → Running → Clients → Clients → Type 0 → Type 0

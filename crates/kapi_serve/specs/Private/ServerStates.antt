@@ -1,5 +1,5 @@
 -- Moments of a server, as its parts see them.
-use Rattle.std.specs.Prelude.{◌≡◌, ◌⊎◌, ℕ, true, List, [], ◌∷◌, ◌++◌, Option, Some, Err, remove, set, ⊤}
+use Rattle.std.specs.Prelude.{◌≡◌, ◌⊎◌, ◌-◌, ℕ, true, List, [], ◌∷◌, ◌++◌, Option, Some, Err, remove, set, ⊤}
 use Rattle.std.specs.List.{HoldsAt}
 use Rattle.kapi_core.specs.Refines.{Makes, TakesIn}
 use Rattle.kapi_core.specs.Running.{Running}
@@ -65,7 +65,7 @@ MovesAfter last old new cs ds report later = (h : List Entry) → (report.tells 
 -- the client at a place left: its connection was closed and its slot ended
 pub record Ends (index : ℕ) (old new : Running) (cs ds : Clients) (report later : Report) : Type 0 where
   pub list : ds.list.items ≡ remove cs.list.items index
-  pub awake : ds.awake.numbers.items ≡ cs.awake.numbers.items
+  pub awake : ds.awake ≡ record cs.awake { start = cs.awake.start - 1 }
   pub closes : HoldsAt (λ c. Makes old new (event.Close c.id) answer.Done) cs.list.items index
   pub adds : HoldsAt (λ c. Adds report later (entry.Ended c.slot ∷ [])) cs.list.items index
 

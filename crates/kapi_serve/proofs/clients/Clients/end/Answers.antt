@@ -13,7 +13,7 @@ returns g c =
     let left = c.remove-client in
     record {
       list = left.ensures.items;
-      awake = refl;
+      awake = c.lower.ensures;
       closes = at_read items (λ z. Makes c.args.core.now c.close.new.self (event.Close z.id) answer.Done) c.args.index left.result c.requires left.ensures.value c.close.ensures;
       adds = at_read items (λ z. Adds (g.Q.Ports.report c.args.ports.now) (g.Q.Ports.report c.end.new.self) (entry.Ended z.slot ∷ [])) c.args.index left.result c.requires left.ensures.value c.end.ensures.told;
     }

@@ -5,7 +5,7 @@ use Rattle.kapi_core.specs.Refines.{Makes, TakesIn}
 use Rattle.kapi_core.specs.declared.event.Answer.TheVariants as answer
 use Rattle.kapi_core.specs.declared.event.Event.TheVariants as event
 use Rattle.kapi_serve.proofs.Going.{adds_nothing}
-use Rattle.kapi_serve.proofs.Tending.{on_as, on_both, on_fed, on_left, on_refused}
+use Rattle.kapi_serve.proofs.Tending.{on_both, on_fed, on_left, on_refused}
 use Rattle.kapi_serve.proofs.clients.Clients.feed.Goals as goal
 
 pub returns-in-Ok-clause-feeds : goal.returns-in-Ok-clause-feeds
@@ -33,9 +33,8 @@ returns-in-Ok-clause-stands g c = λ has.
     let d = c.index_mut.result.now in
     let e = c.index.result.now in
     on_fed _ _ items _ c.args.index d e.id c.args.piece.now c.requires.bound c.index_mut.ensures.value
-    (ap (λ z. z.id) (c.index.ensures ∙ get_or_default items c.args.index e d c.requires.bound ∙ sym c.index_mut.ensures.value)) (has d) (c.requires.reading d) c.in-Ok.ensures
+    (ap (λ z. z.id) (c.index.ensures ∙ get_or_default items c.args.index e d c.requires.bound ∙ sym c.index_mut.ensures.value)) has (c.requires.reading d) c.in-Ok.ensures
 
 pub returns-in-Err-clause-stands : goal.returns-in-Err-clause-stands
 returns-in-Err-clause-stands g c = λ has.
-    on_as _ _ _ _ _ _ _ _ (on_both _ _ _ _ _ _ _ _ _ (on_refused _ _ _ _ c.index.result.now.id c.args.piece.now c.in-Err._refused c.in-Err.ensures) (on_left _ _ _ _ _ _ c.args.index c.index.result.now c.requires.bound c.end.ensures))
-    refl c.end.ensures.awake
+    on_both _ _ _ _ _ _ _ _ _ (on_refused _ _ _ _ c.index.result.now.id c.args.piece.now c.in-Err._refused c.in-Err.ensures) (on_left _ _ _ _ _ _ c.args.index c.index.result.now c.requires.bound c.end.ensures)

@@ -21,13 +21,13 @@ returns-in-Err-clause-moves g c = λ h first d k.
     (goes_unopened _ _ _ (g.Q.Ports.report c.args.ports.now) _ c.args.slot c.args.identity c.in-Err._refused c.forget.ensures.free (ap seats_of c.reserve.ensures.items) c.in-Err.ensures (λ y. (y, first y)) c.end-in-Err.ensures.told)
 
 pub returns-then-is_err-clause-stands : goal.returns-then-is_err-clause-stands
-returns-then-is_err-clause-stands g c = on_as _ _ _ _ _ _ _ _ c.forget.ensures.stands c.reserve.ensures.items c.reserve.ensures.awake
+returns-then-is_err-clause-stands g c = on_as _ _ _ _ _ _ _ _ c.forget.ensures.stands c.reserve.ensures.items refl
 
 pub returns-in-Ok-clause-stands : goal.returns-in-Ok-clause-stands
 returns-in-Ok-clause-stands g c = on_as _ _ _ _ _ _ _ _
-    (on_both _ _ _ _ _ _ _ _ _ (on_as _ _ _ _ _ _ _ _ c.forget.ensures.stands c.reserve.ensures.items c.reserve.ensures.awake) (on_opened _ _ _ _ _ c.args.identity c.in-Ok.id c.in-Ok.ensures c.add.ensures.fresh))
+    (on_both _ _ _ _ _ _ _ _ _ (on_as _ _ _ _ _ _ _ _ c.forget.ensures.stands c.reserve.ensures.items refl) (on_opened _ _ _ _ _ c.args.identity c.in-Ok.id c.in-Ok.ensures c.add.ensures.fresh))
     refl c.add.ensures.awake
 
 pub returns-in-Err-clause-stands : goal.returns-in-Err-clause-stands
 returns-in-Err-clause-stands g c =
-    on_both _ _ _ _ _ _ _ _ _ (on_as _ _ _ _ _ _ _ _ c.forget.ensures.stands c.reserve.ensures.items c.reserve.ensures.awake) (on_unopened _ _ _ _ c.args.identity c.in-Err._refused c.in-Err.ensures)
+    on_both _ _ _ _ _ _ _ _ _ (on_as _ _ _ _ _ _ _ _ c.forget.ensures.stands c.reserve.ensures.items refl) (on_unopened _ _ _ _ c.args.identity c.in-Err._refused c.in-Err.ensures)

@@ -8,4 +8,4 @@ pub returns-clause-seats : goal.returns-clause-seats
 returns-clause-seats c = seats_same c.args.self.now.list.items c.args.index _ c.index_mut-client.result.now (ap seat_of c.index_mut-client.ensures.value)
 
 pub returns-clause-stands : goal.returns-clause-stands
-returns-clause-stands c = λ has m s. stands_ended m c.args.self.now.list.items c.args.self.now.awake.numbers.items c.args.index c.index_mut-client.result.now c.requires c.index_mut-client.ensures.value (has c.index_mut-client.result.now) s
+returns-clause-stands c = λ has m s. stands_ended m c.args.self.now.list.items c.args.self.now.awake c.args.index c.index_mut-client.result.now c.requires c.index_mut-client.ensures.value has s

@@ -1,22 +1,13 @@
-use Rattle.std.proofs.Common.{◌++◌, [], ◌∷◌, take, ap, sym, refl, subst, ◌∙◌}
-use Rattle.std.proofs.lemmas.List.{get_or_default}
-use Rattle.kapi_aggregation.specs.Members.{Has}
+use Rattle.std.proofs.Common.{◌++◌, [], ◌∷◌, take, ap, sym, refl, ◌∙◌}
 use Rattle.kapi_serve.specs.Private.Clients.{others}
 use Rattle.kapi_serve.specs.declared.port.Entry.TheVariants as entry
 use Rattle.kapi_serve.proofs.Going.{ends_at, feeds_at, goes_nothing, goes_on, goes_still, others_fed, reads_end_at}
 use Rattle.kapi_serve.proofs.Placing.{others_ended}
-use Rattle.kapi_serve.proofs.Standing.{has_contained}
-use Rattle.kapi_serve.proofs.Tending.{on_as, on_both, on_left, on_nothing, on_ok, on_woken}
+use Rattle.kapi_serve.proofs.Tending.{on_both, on_each, on_left, on_nothing, on_woken}
 use Rattle.kapi_serve.proofs.clients.Clients.read_slot_at.Goals as goal
 
 pub returns-then-ne-clause-moves : goal.returns-then-ne-clause-moves
 returns-then-ne-clause-moves g c = λ d k. goes_nothing _
-
-pub returns-then-is_err-clause-moves : goal.returns-then-is_err-clause-moves
-returns-then-is_err-clause-moves g c = λ d k. ends_at _ _ _ _ c.args.index _ _ c.index.result.now c.end.ensures c.requires.bound refl refl
-
-pub returns-then-is_err-clause-others : goal.returns-then-is_err-clause-others
-returns-then-is_err-clause-others g c = let e = c.index.result.now in others_ended c.args.slot c.args.index _ _ e c.requires.bound (c.requires.found e) c.end.ensures.list
 
 pub returns-in-Ok-eq0-clause-moves : goal.returns-in-Ok-eq0-clause-moves
 returns-in-Ok-eq0-clause-moves g c = λ d k.
@@ -31,7 +22,7 @@ returns-in-Err-WouldBlock-clause-moves g c = λ d k. goes_still _ _ _ refl c.in-
 
 pub returns-in-Err-Failed-clause-moves : goal.returns-in-Err-Failed-clause-moves
 returns-in-Err-Failed-clause-moves g c = λ d k.
-    goes_on _ _ _ (goes_still _ _ (g.Q.Ports.report c.read.new.self) refl c.in-Err-Failed.ensures.told) (ends_at _ _ _ _ c.args.index _ _ c.index.result.now c.end-in-Err-Failed.ensures c.requires.bound refl refl)
+    goes_on _ _ _ (goes_still _ _ (g.Q.Ports.report c.read.new.self) refl c.in-Err-Failed.ensures.told) (ends_at _ _ _ _ c.args.index _ _ c.index.result.now c.end.ensures c.requires.bound refl refl)
 
 pub returns-in-Ok-eq0-clause-others : goal.returns-in-Ok-eq0-clause-others
 returns-in-Ok-eq0-clause-others g c = ap (λ xs. others c.args.slot xs) c.reach_end.ensures.seats
@@ -48,33 +39,19 @@ pub returns-in-Ok-clause-others : goal.returns-in-Ok-clause-others
 returns-in-Ok-clause-others g c = let e = c.index.result.now in others_fed c.args.slot c.args.index _ _ _ _ _ _ _ e c.feed.ensures.feeds c.requires.bound (c.requires.found e)
 
 pub returns-in-Err-Failed-clause-others : goal.returns-in-Err-Failed-clause-others
-returns-in-Err-Failed-clause-others g c = let e = c.index.result.now in others_ended c.args.slot c.args.index _ _ e c.requires.bound (c.requires.found e) c.end-in-Err-Failed.ensures.list
+returns-in-Err-Failed-clause-others g c = let e = c.index.result.now in others_ended c.args.slot c.args.index _ _ e c.requires.bound (c.requires.found e) c.end.ensures.list
 
 pub returns-then-ne-clause-stands : goal.returns-then-ne-clause-stands
 returns-then-ne-clause-stands g c = on_nothing _ _ _
 
-pub returns-then-is_err-clause-stands : goal.returns-then-is_err-clause-stands
-returns-then-is_err-clause-stands g c = on_as _ _ _ _ _ _ _ _ (on_both _ _ _ _ _ _ _ _ _ (on_woken _ _ _ _ c.add.ensures.others)
-    (on_left _ _ _ _ _ _ c.args.index c.index.result.now c.requires.bound c.end.ensures)) refl c.end.ensures.awake
-
 pub returns-in-Ok-eq0-clause-stands : goal.returns-in-Ok-eq0-clause-stands
-returns-in-Ok-eq0-clause-stands g c =
-    on_both _ _ _ _ _ _ _ _ _ (on_woken _ _ _ _ c.add.ensures.others) (λ m r s. (
-      m,
-      r,
-      c.reach_end.ensures.stands
-          (λ d. subst (λ z. Has c.add.new.self.numbers.items z.id.0) (c.index-2.ensures ∙ get_or_default c.args.self.now.list.items c.args.index _ d c.requires.bound) (has_contained _ _ (on_ok _ _ c.add.ensures.there (sym c.is_err.ensures.value ∙ c.if-is_err.false)))) m s,
-    ))
+returns-in-Ok-eq0-clause-stands g c = on_both _ _ _ _ _ _ _ _ _ (on_woken _ _ _ _ c.add.ensures.others) (on_each _ _ _ _ _ (c.reach_end.ensures.stands c.add.ensures.within))
 
 pub returns-in-Ok-clause-stands : goal.returns-in-Ok-clause-stands
-returns-in-Ok-clause-stands g c =
-    on_both _ _ _ _ _ _ _ _ _ (on_woken _ _ _ _ c.add.ensures.others) (c.feed.ensures.stands
-    (λ d. subst (λ z. Has c.add.new.self.numbers.items z.id.0) (c.index-2.ensures ∙ get_or_default c.args.self.now.list.items c.args.index _ d c.requires.bound) (has_contained _ _ (on_ok _ _ c.add.ensures.there (sym c.is_err.ensures.value ∙ c.if-is_err.false)))))
+returns-in-Ok-clause-stands g c = on_both _ _ _ _ _ _ _ _ _ (on_woken _ _ _ _ c.add.ensures.others) (c.feed.ensures.stands c.add.ensures.within)
 
 pub returns-in-Err-WouldBlock-clause-stands : goal.returns-in-Err-WouldBlock-clause-stands
 returns-in-Err-WouldBlock-clause-stands g c = on_woken _ _ _ _ c.add.ensures.others
 
 pub returns-in-Err-Failed-clause-stands : goal.returns-in-Err-Failed-clause-stands
-returns-in-Err-Failed-clause-stands g c =
-    on_as _ _ _ _ _ _ _ _ (on_both _ _ _ _ _ _ _ _ _ (on_woken _ _ _ _ c.add.ensures.others)
-    (on_left _ _ _ _ _ _ c.args.index c.index.result.now c.requires.bound c.end-in-Err-Failed.ensures)) refl c.end-in-Err-Failed.ensures.awake
+returns-in-Err-Failed-clause-stands g c = on_both _ _ _ _ _ _ _ _ _ (on_woken _ _ _ _ c.add.ensures.others) (on_left _ _ _ _ _ _ c.args.index c.index.result.now c.requires.bound c.end.ensures)

@@ -1,6 +1,6 @@
 use Rattle.std.proofs.Common.{refl}
 use Rattle.kapi_serve.proofs.Going.{ends_at, goes_on, goes_still}
-use Rattle.kapi_serve.proofs.Tending.{on_as, on_each, on_left, on_nothing}
+use Rattle.kapi_serve.proofs.Tending.{on_each, on_left, on_nothing}
 use Rattle.kapi_serve.proofs.clients.Clients.retry_at.Goals as goal
 
 pub returns-in-Ok-clause-moves : goal.returns-in-Ok-clause-moves
@@ -20,4 +20,4 @@ returns-in-Err-Failed-clause-moves g c = λ d k.
     goes_on _ _ _ (goes_still _ _ (g.Q.Ports.report c.ask.new.ports) refl c.ask.ensures) (ends_at _ _ _ _ c.args.index _ _ c.index.result.now c.end.ensures c.requires refl refl)
 
 pub returns-in-Err-Failed-clause-stands : goal.returns-in-Err-Failed-clause-stands
-returns-in-Err-Failed-clause-stands g c = on_as _ _ _ _ _ _ _ _ (on_left _ _ _ _ _ _ c.args.index c.index.result.now c.requires c.end.ensures) refl c.end.ensures.awake
+returns-in-Err-Failed-clause-stands g c = on_left _ _ _ _ _ _ c.args.index c.index.result.now c.requires c.end.ensures
