@@ -285,10 +285,10 @@ def keys(count):
 def selected(program):
     """Lists of thousands of objects by selectors of thousands of requirements: the same one, of other keys, of other values of one key."""
     made = [{"apiVersion": "v1", "kind": "ConfigMap", "metadata": {"name": f"m{number:06}", "namespace": "default", "labels": {"k": "v"}}} for number in range(SELECTED)]
-    selectors = {"equal ones": ["!z"] * REQUIREMENTS, "of other keys": (f"!{key}" for key in keys(3_000)), "of one key": (f"k!={key}" for key in keys(2_500))}
+    selectors = {"equal ones": ["!z"] * REQUIREMENTS, "of other keys": (f"!{key}" for key in keys(3_000)), "of one key": (f"k!={key}" for key in keys(2_200))}
     with Server(program, objects=made + grant("Role", "list")) as server:
         client = connect(ports.ANN)
-        figures = [(f"ms of processor time with {name}", 1000 * cost_of(server, client, "GET", f"{MAPS}?labelSelector={','.join(asked)}", None), 60) for name, asked in selectors.items()]
+        figures = [(f"ms of processor time with {name}", 1000 * cost_of(server, client, "GET", f"{MAPS}?labelSelector={','.join(asked)}", ""), 60) for name, asked in selectors.items()]
     return judge(f"lists of {SELECTED:,} objects by thousands of requirements", figures)
 
 
