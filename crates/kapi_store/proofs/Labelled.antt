@@ -17,7 +17,7 @@ use Rattle.kapi_object.specs.Order.{in_order, is_ordered, precedes}
 use Rattle.kapi_object.specs.Tree.{in_metadata, members_or_none}
 use Rattle.serde_json.specs.Read.{read}
 use Rattle.kapi_store.specs.Labels.{labels_among, labels_of, told_by}
-use Rattle.kapi_store.specs.Private.Matching.{AreDistinct}
+use Rattle.kapi_store.specs.Matching.{AreDistinct}
 
 -- keys are compared either way
 pub turned : (k l : List ℕ) (o : Ordering) → slice_cmp nat_cmp k l ≡ o → bytes_eq l k ≡ is_eq (ordering_reverse o)

@@ -20,7 +20,8 @@ use Rattle.kapi_model.specs.declared.selector.Requirement.{Requirement}
 use Rattle.kapi_model.specs.declared.selector.Selector.{Selector}
 use Rattle.kapi_store.specs.declared.matcher.Checks.{Checks}
 use Rattle.kapi_store.specs.declared.matcher.Matcher.{Matcher}
-use Rattle.kapi_store.specs.Private.Matching.{AreDistinct, Meets, are_there, is_there, lets, passes, passes_at, presence_of}
+use Rattle.kapi_store.specs.Matching.{AreDistinct, Meets}
+use Rattle.kapi_store.specs.Private.Matching.{are_there, is_there, lets, passes, passes_at, presence_of}
 
 and_assoc : (a b c : Bool) → ((a && b) && c) ≡ (a && (b && c))
 and_assoc true b c = refl

@@ -12,5 +12,6 @@ pub mod Lent
 pub mod Faults
 pub mod Plain
 pub mod Listing
+pub mod Matching
 pub mod Rows
 pub mod Private

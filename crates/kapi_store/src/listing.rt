@@ -2,7 +2,7 @@
 
 ghost use Rattle.std.specs.Prelude.{◌≡◌, IfOk, map};
 ghost use Rattle.kapi_store.specs.Private.Hidden.{visible};
-ghost use Rattle.kapi_store.specs.Private.Matching.{Meets};
+ghost use Rattle.kapi_store.specs.Matching.{Meets};
 ghost use Rattle.kapi_store.specs.Stored.{stored_tree};
 ghost use Rattle.kapi_store.specs.Listing.{is_asked as is_asked_of, is_within as is_within_of, is_listed as is_listed_of, listed_objects, shown};
 ghost use Rattle.kapi_store.specs.Private.Span.{after as after_text, first_key as first_key_of, end_key as end_key_of};
@@ -66,7 +66,7 @@ impl<'a> Selection<'a> {
         requires { Meets matcher.now self.now.selector.now }
         ensures { result ≡ is_listed_of self.now.row.now self.now.namespace.now self.now.selector.now self.now.name.now key.now (stored_tree object.now) }
     {
-        self.is_within(key) && matcher.matches(object.get().label_list())
+        self.is_within(key) && matcher.selects(object.get())
     }
 
     /// The first key that may be listed.

@@ -1,13 +1,14 @@
-//! Selectors in a form that is made once for a list, so that an object costs as many steps as it has labels, each a search,
-//! however many requirements the selector has.
+//! Selectors in a form that is made once for a list or a watch, so that an object costs as many steps as it has labels,
+//! each a search, however many requirements the selector has.
 
 ghost use Rattle.std.specs.Prelude.{◌≡◌, ◌&&◌, if◌then◌else◌, ℕ, List, [], map, Option, None, Some, true, not, IfOk, OnOk};
 ghost use Rattle.std.specs.Option.{option_map_or};
 ghost use Rattle.std.specs.Str.{bytes_eq};
 ghost use Rattle.std.specs.List.{list_all};
 ghost use Rattle.kapi_model.specs.Selector.{holds, is_listed};
-ghost use Rattle.kapi_store.specs.Private.Matching.{Meets, are_there, is_there, lets, meets, presence_of, passes as passes_of, passes_at as passes_at_of};
+ghost use Rattle.kapi_store.specs.Private.Matching.{are_there, is_there, lets, presence_of, passes as passes_of, passes_at as passes_at_of};
 
+use crate::stored::StoredObject;
 use kapi_model::{Label, Labels, Operator, Requirement, Selector};
 use kapi_text::{Memory, Sequence, Text, TryCopy};
 use std::alloc::Global;
@@ -165,7 +166,7 @@ fn presence(alloc: Global, keys: &BTreeSet<Text>) -> Result<Vec<Requirement>, Me
 /// A selector in the form in which labels are looked up in it: the labels meet all requirements if each key that one of
 /// them needs is there, and the value of each label passes.
 #[derive(Debug, Drop)]
-pub(crate) struct Matcher {
+pub struct Matcher {
     /// The labels and the keys that must be there. Each key stands once, and the first that is lacking ends the walk, so
     /// it takes at most one step more than an object has labels.
     needed: Selector,
@@ -173,8 +174,17 @@ pub(crate) struct Matcher {
 }
 
 impl Matcher {
+    ghost use Rattle.std.specs.Prelude.{◌≡◌, codes, IfOk};
+    ghost use Rattle.std.specs.List.{list_all};
+    ghost use Rattle.kapi_model.specs.Selector.{matches as matches_of};
+    ghost use Rattle.kapi_model.specs.declared.selector.Selector.{Selector};
+    ghost use Rattle.kapi_object.specs.Tree.{in_metadata};
+    ghost use Rattle.kapi_store.specs.Matching.{Meets};
+    ghost use Rattle.kapi_store.specs.Private.Matching.{meets, passes_at as passes_at_of};
+    ghost use Rattle.kapi_store.specs.Stored.{stored_tree};
+
     /// The form of a selector.
-    pub(crate) fn of(alloc: Global, selector: &Selector) -> Result<Matcher, Memory>
+    pub fn of(alloc: Global, selector: &Selector) -> Result<Matcher, Memory>
         ensures { IfOk result (λ m. Meets m selector.now) }
     {
         let requirements = selector.match_expressions.as_slice();
@@ -205,10 +215,17 @@ impl Matcher {
         labels.iter().all(|label| self.passes(label))
     }
 
-    /// Whether the needed labels are there, and each label passes. Allocates nothing.
-    pub(crate) fn matches(&self, labels: &[Label]) -> bool
+    /// Whether the needed labels are there, and each label passes.
+    fn matches(&self, labels: &[Label]) -> bool
         ensures { result ≡ meets self.now labels.now }
     {
         self.needed.matches(&Labels::new(labels)) && self.all_pass(labels)
+    }
+
+    /// Whether the selector that this is the form of matches the object's labels. Allocates nothing.
+    pub fn selects(&self, object: &StoredObject) -> bool
+        ensures { (selector : Selector) → Meets self.now selector → result ≡ matches_of selector (in_metadata (codes "labels") (stored_tree object.now)) }
+    {
+        self.matches(object.label_list())
     }
 }

@@ -10,9 +10,59 @@ ghost use Rattle.kapi_watch.specs.Shown.{removed_tree, selected as selected_of, 
 
 use crate::event::{Event, Removed};
 use kapi_model::{ResourceRow, Selector};
-use kapi_store::{Change, Changes, Key, Shared, StoredObject, is_asked};
+use kapi_store::{Change, Changes, Key, Matcher, Shared, StoredObject, is_asked};
 use kapi_text::{Memory, Text, TryCopy};
 use std::alloc::Global;
+use std::marker::Model;
+
+/// A selector, with the form in which labels are looked up in it.
+#[derive(Debug, Drop)]
+pub struct PreparedSelector {
+    selector: Selector,
+    matcher: Matcher,
+}
+
+impl Model for PreparedSelector {
+    ghost use Rattle.kapi_model.specs.declared.selector.Selector.{Selector};
+    ghost use Rattle.kapi_store.specs.Matching.{Meets};
+
+    ghost Value = { Selector };
+
+    ghost view = { λ p. p.selector };
+
+    ghost invariant = { λ p. Meets p.matcher p.selector };
+}
+
+impl PreparedSelector {
+    ghost use Rattle.std.specs.Prelude.{◌≡◌, codes, IfOk};
+    ghost use Rattle.kapi_model.specs.Selector.{matches};
+    ghost use Rattle.kapi_object.specs.Tree.{in_metadata};
+    ghost use Rattle.kapi_store.specs.Stored.{stored_tree};
+
+    /// A copy of a selector, prepared.
+    fn new(alloc: Global, selector: &Selector) -> Result<PreparedSelector, Memory>
+        ensures { IfOk result (λ p. p ≡ selector.now) }
+    {
+        Ok(PreparedSelector {
+            selector: selector.copy(alloc)?,
+            matcher: Matcher::of(alloc, selector)?,
+        })
+    }
+
+    /// The selector.
+    pub fn get(&self) -> &Selector
+        ensures { result.now ≡ self.now }
+    {
+        &self.selector
+    }
+
+    /// Whether the selector matches the object's labels. Allocates nothing.
+    fn selects(&self, object: &StoredObject) -> bool
+        ensures { result ≡ matches self.now (in_metadata (codes "labels") (stored_tree object.now)) }
+    {
+        self.matcher.selects(object)
+    }
+}
 
 /// Which objects a watch shows.
 #[derive(Debug, Drop)]
@@ -20,7 +70,7 @@ pub struct Scope {
     pub row: ResourceRow,
     /// The namespace, empty for all namespaces.
     pub namespace: Text,
-    pub selector: Selector,
+    pub selector: PreparedSelector,
     /// The name, empty for all names.
     pub name: Text,
 }
@@ -55,7 +105,7 @@ impl Scope {
         Ok(Scope {
             row: row.copy(alloc)?,
             namespace: Text::copy_of(alloc, namespace)?,
-            selector: selector.copy(alloc)?,
+            selector: PreparedSelector::new(alloc, selector)?,
             name: Text::copy_of(alloc, name)?,
         })
     }
@@ -79,7 +129,7 @@ impl Scope {
         ensures { option_map (λ o. stored_tree o.now) result ≡ selected_of self.now key.now (option_map stored_tree object.now) }
     {
         match object {
-            Some(object) if object.get().is_selected(&self.selector) => Some(object.get()),
+            Some(object) if self.selector.selects(object.get()) => Some(object.get()),
             _none => None,
         }
     }

@@ -133,7 +133,7 @@ impl Watch {
         ensures runs { IfOk result (λ r. r.stopped ≡ false) }
     {
         let (namespace, name) = (scope.namespace.as_str(), scope.name.as_str());
-        let listed = store.list(&scope.row, namespace, &scope.selector, name)?;
+        let listed = store.list(&scope.row, namespace, scope.selector.get(), name)?;
         let first = objects_of(alloc, &listed)?;
         Ok(Watch {
             scope,

@@ -1,5 +1,5 @@
 -- A selector in the form in which an object's labels are looked up in it.
-use Rattle.std.specs.Prelude.{◌≡◌, ℕ, Bool, true, not, ◌&&◌, ◌||◌, List, [], ◌∷◌, Option, Some, None, is_some, unwrap_or}
+use Rattle.std.specs.Prelude.{ℕ, Bool, true, not, ◌&&◌, ◌||◌, List, [], Option, Some, None, is_some, unwrap_or}
 use Rattle.std.specs.BTreeMap.{BTreeMap, get}
 use Rattle.std.specs.Cmp.Lexicographic.{slice_cmp}
 use Rattle.std.specs.List.{list_all}
@@ -10,7 +10,6 @@ use Rattle.kapi_model.specs.Selector.{holds, matches_values, value_in}
 use Rattle.kapi_model.specs.declared.selector.Label.{Label}
 use Rattle.kapi_model.specs.declared.selector.Operator.TheVariants.{Exists}
 use Rattle.kapi_model.specs.declared.selector.Requirement.{Requirement}
-use Rattle.kapi_model.specs.declared.selector.Selector.{Selector}
 use Rattle.kapi_store.specs.declared.matcher.Checks.{Checks}
 use Rattle.kapi_store.specs.declared.matcher.Matcher.{Matcher}
 
@@ -41,12 +40,3 @@ presence_of key = record { key = key; operator = Exists; values = [] }
 -- the labels that are needed are there, and each label passes
 abbrev pub meets : Matcher → List Label → Bool
 meets m labels = matches_values m.needed (value_in labels) && list_all (λ l. passes_at m.keys l.key l.value) labels
-
--- no two labels have one key
-abbrev pub AreDistinct : List Label → Type 0
-AreDistinct [] = Unit {0}
-AreDistinct (l ∷ ls) = (value_in ls l.key ≡ None) × AreDistinct ls
-
--- the form of a selector matches the labels that the selector matches
-abbrev pub Meets : Matcher → Selector → Type 0
-Meets m selector = (labels : List Label) → AreDistinct labels → meets m labels ≡ matches_values selector (value_in labels)

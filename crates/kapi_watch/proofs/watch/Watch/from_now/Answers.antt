@@ -1,5 +1,6 @@
 use Rattle.std.proofs.Common.{ℕ, List, map, ap, ◌∙◌}
 use Rattle.serde_json.specs.Data.{Data}
+use Rattle.kapi_model.specs.declared.selector.Selector.{Selector}
 use Rattle.kapi_store.specs.Stored.{stored_tree}
 use Rattle.kapi_store.specs.declared.key.Key.{Key}
 use Rattle.kapi_store.specs.declared.listing.Listed.{Listed}
@@ -14,7 +15,7 @@ returns-clause-gives c =
     let scope = c.args.scope in
     let second : List (Key × Data) → List Data = λ es. map (λ e. e.1) es in
     let listed : List Listed → List Data = λ ls. map (λ l. stored_tree l.object.now) ls in
-    let shown : List ℕ → List ℕ → List (Key × Data) → List Data = λ namespace name os. second (listed_trees scope.row namespace scope.selector name os) in
+    let shown : Selector → List ℕ → List ℕ → List (Key × Data) → List Data = λ selector namespace name os. second (listed_trees scope.row namespace selector name os) in
     let objects : List (Key × Data) = (plain_of c.args.store.now).objects in
     let told : List Data → ℕ → PlainWatch = λ first revision. record { scope = scope; first = first; start = revision; shown = 0; position = revision } in
     let first =
@@ -22,6 +23,7 @@ returns-clause-gives c =
     ∙ ap listed c.deref.ensures.value
     ∙ listed_second (λ l. l.key.now) (λ l. l.object.now) c.in_ok-listed.listed.items
     ∙ ap second c.in_ok-listed.ensures.trees
-    ∙ ap (λ namespace. shown namespace c.as_str-name.result.now objects) c.as_str-namespace.ensures
-    ∙ ap (λ name. shown scope.namespace name objects) c.as_str-name.ensures in
-    ap (λ l. told l c.revision.result) first ∙ ap (told (shown scope.namespace scope.name objects)) c.revision.ensures.number
+    ∙ ap (λ selector. shown selector c.as_str-namespace.result.now c.as_str-name.result.now objects) c.get.ensures
+    ∙ ap (λ namespace. shown scope.selector namespace c.as_str-name.result.now objects) c.as_str-namespace.ensures
+    ∙ ap (λ name. shown scope.selector scope.namespace name objects) c.as_str-name.ensures in
+    ap (λ l. told l c.revision.result) first ∙ ap (told (shown scope.selector scope.namespace scope.name objects)) c.revision.ensures.number
