@@ -7,7 +7,7 @@ use Rattle.std.proofs.lemmas.Bool.{cases_eq, cases_lt}
 use Rattle.std.proofs.lemmas.Grind.{get_or-set_at}
 use Rattle.std.proofs.lemmas.List.{get_or_append_left, get_or-set_other, length-append}
 use Rattle.std.proofs.lemmas.List.Edits.{get_or-remove_above, get_or-remove_below, length-remove}
-use Rattle.kapi_serve.specs.declared.awake.Awake.{Awake}
+use Rattle.kapi_serve.specs.declared.clients.Awake.{Awake}
 use Rattle.kapi_serve.specs.declared.client.Client.{Client}
 use Rattle.kapi_serve.specs.Private.ClientsMatch.{AreAsleep, IsQuiet, IsWithin, Rise}
 

@@ -27,7 +27,7 @@ use Rattle.kapi_core.specs.declared.event.Turned.{Turned}
 use Rattle.kapi_http.specs.declared.inbox.FeedError.{FeedError}
 use Rattle.kapi_http.specs.declared.inbox.FeedError.TheVariants as fed
 use Rattle.kapi_model.specs.declared.identity.Identity.{Identity}
-use Rattle.kapi_serve.specs.declared.awake.Awake.{Awake}
+use Rattle.kapi_serve.specs.declared.clients.Awake.{Awake}
 use Rattle.kapi_serve.specs.declared.client.Client.{Client}
 use Rattle.kapi_serve.specs.declared.clients.Clients.{Clients}
 use Rattle.kapi_serve.specs.declared.client.Phase.{Phase}
@@ -39,11 +39,11 @@ use Rattle.kapi_serve.specs.Ports.{Report}
 use Rattle.kapi_serve.specs.Private.ServerStates.{Ends}
 use Rattle.kapi_serve.specs.Private.Pieces.{IsCounted, IsSent, joined, owed}
 use Rattle.kapi_serve.specs.Private.Progresses.{both}
-use Rattle.kapi_serve.specs.Private.ClientsMatch.{AllMatch, AreAsleep, AreCalled, AreRoused, Finishes, GoesOn, HasNoRequest, IsNew, IsNumbered, IsQuiet, IsServed, IsWithin, Keeps, PassesBy, RestBefore, Rise, Stays, MatchesConnection, Tends, Waits, is_called}
+use Rattle.kapi_serve.specs.Private.ClientsMatch.{AllMatch, AreCalled, AreRoused, Finishes, GoesOn, HasNoRequest, IsNew, IsNumbered, IsQuiet, IsServed, IsWithin, Keeps, PassesBy, RestBefore, Rise, Stays, MatchesConnection, Tends, Waits, is_called}
 use Rattle.kapi_serve.specs.Rests.{AreAtRest, Rests}
 use Rattle.kapi_serve.proofs.Connections.{answered_nothing, answered_same, closed_gone, fed_fingerprint, goes_both, goes_event, goes_none, gone_request, opened_fingerprint, opened_request, pumped_fingerprint, pumped_request, request_answered, served_gone, shown_gone, stays_both, stays_none, turn_stays, unfed_stays, unserved_stays}
 use Rattle.kapi_serve.proofs.Numbers.{opened_next}
-use Rattle.kapi_serve.proofs.Standing.{asleep_came, asleep_left, asleep_more, asleep_set, each_at, each_by_place, each_left, each_more, each_put, each_set, each_to, rise_left, rise_less, rise_more, rise_set}
+use Rattle.kapi_serve.proofs.Standing.{asleep_came, asleep_left, asleep_more, asleep_set, each_at, each_by_place, each_left, each_more, each_set, each_to, rise_left, rise_less, rise_more, rise_set}
 
 -- ---- progress
 

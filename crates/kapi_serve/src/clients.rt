@@ -1,4 +1,4 @@
-ghost use Rattle.std.specs.Prelude.{◌≡◌, ◌⊎◌, ◌<◌, ◌≤◌, ℕ, List, Option, [], ◌∷◌, ◌++◌, true, None, IfSome, ◌==◌, length, map, option_map, set, suc, false, vec_len, vec_capacity};
+ghost use Rattle.std.specs.Prelude.{◌≡◌, ◌⊎◌, ◌-◌, ◌<◌, ◌≤◌, ℕ, List, Option, [], ◌∷◌, ◌++◌, true, None, IfSome, ◌==◌, length, map, option_map, set, suc, false, vec_len, vec_capacity};
 ghost use Rattle.std.specs.List.{HoldsAt, position};
 ghost use Rattle.kapi_core.specs.Fingerprints.{fingerprint_on, is_among, is_concerned};
 ghost use Rattle.kapi_core.specs.Machine.{Machine, link_at};
@@ -13,7 +13,6 @@ ghost use Rattle.kapi_serve.specs.declared.client.Phase.TheVariants as phase;
 ghost use Rattle.kapi_serve.specs.declared.port.Entry.TheVariants as entry;
 ghost use Rattle.kapi_serve.specs.declared.progress.Progress.TheVariants as progress;
 
-use crate::awake::Awake;
 use crate::client::{Client, Phase};
 use crate::marks::{MARKS, marks_of};
 use crate::pending::Pending;
@@ -32,6 +31,37 @@ const WAKE_ALL_AFTER: u64 = 256;
 
 /// The number of list positions that are remembered; more than the connections open at a time.
 const PLACES: usize = 512;
+
+/// The places from the first to the last connection at which something may be done.
+#[derive(Drop)]
+pub(crate) struct Awake {
+    pub(crate) start: usize,
+    pub(crate) end: usize,
+}
+
+impl Awake {
+    /// Takes a place in.
+    pub(crate) fn add(&mut self, place: usize)
+        requires { place < 18446744073709551615 }
+        ensures within { IsWithin self.new place }
+        ensures others { (other : ℕ) → IsWithin self.old other → IsWithin self.new other }
+    {
+        if self.start < self.end {
+            self.start = self.start.min(place);
+            self.end = self.end.max(place + 1);
+        } else {
+            self.start = place;
+            self.end = place + 1;
+        }
+    }
+
+    /// Takes in the place before the first, since connections move up when one leaves.
+    pub(crate) fn lower(&mut self)
+        ensures { self.new ≡ record self.old { start = self.old.start - 1 } }
+    {
+        self.start = self.start.saturating_sub(1);
+    }
+}
 
 /// The connections that are served, in the order of their numbers.
 #[derive(Drop)]

@@ -5,7 +5,6 @@
 //! and wrote, each byte is accounted for: it goes to and from the client that it belongs to.
 #![tactic(auto)]
 
-mod awake;
 mod client;
 mod clients;
 mod listener;

@@ -1,5 +1,5 @@
 -- What the loop keeps of its clients, and how that suits the connections of the machine.
-use Rattle.std.specs.Prelude.{◌≡◌, ◌⊎◌, ◌+◌, ◌<◌, ◌≤◌, ◌%◌, ℕ, suc, Bool, true, false, List, [], ◌∷◌, length, Option, Some, None, is_some}
+use Rattle.std.specs.Prelude.{◌≡◌, ◌⊎◌, ◌+◌, ◌<◌, ◌≤◌, ◌%◌, ℕ, Bool, true, false, List, [], ◌∷◌, length, Option, Some, None, is_some}
 use Rattle.std.specs.List.{AllByRecursion, HoldsAt}
 use Rattle.std.specs.List.Sorted.{IsStrictlySortedBy}
 use Rattle.std.specs.Map.{keys_of}
@@ -13,7 +13,7 @@ use Rattle.kapi_core.specs.declared.event.Event.TheVariants as event
 use Rattle.kapi_serve.specs.Private.Clients.{seat_of}
 use Rattle.kapi_serve.specs.Private.Pieces.{IsCounted, owed}
 use Rattle.kapi_serve.specs.Rests.{AreAtRest, Rests}
-use Rattle.kapi_serve.specs.declared.awake.Awake.{Awake}
+use Rattle.kapi_serve.specs.declared.clients.Awake.{Awake}
 use Rattle.kapi_serve.specs.declared.client.Client.{Client}
 use Rattle.kapi_serve.specs.declared.client.Phase.TheVariants as phase
 use Rattle.kapi_serve.specs.declared.clients.Clients.{Clients}

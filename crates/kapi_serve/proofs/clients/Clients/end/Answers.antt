@@ -1,4 +1,4 @@
-use Rattle.std.proofs.Common.{[], ◌∷◌, refl}
+use Rattle.std.proofs.Common.{[], ◌∷◌}
 use Rattle.std.proofs.lemmas.List.Elements.{at_read}
 use Rattle.kapi_core.specs.Refines.{Makes}
 use Rattle.kapi_core.specs.declared.event.Answer.TheVariants as answer
