@@ -1,5 +1,5 @@
 -- An answer by a policy is an answer by the file that it is.
-use Rattle.std.proofs.Common.{◌≡◌, ℕ, List, Option, None, Some, Result, Ok, Err, IsErrAnd, refl, sym, ap, ◌∙◌, subst}
+use Rattle.std.proofs.Common.{◌≡◌, ℕ, List, Option, None, Some, Result, Ok, Err, IsErrAnd, refl, sym, ap, subst}
 use Rattle.kapi_text.specs.Gives.{Fails, Gives, ◌>>=◌}
 use Rattle.kapi_loading.specs.Faults as loading
 use Rattle.kapi_loading.specs.Faults.{FileFault}

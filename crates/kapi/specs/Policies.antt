@@ -1,5 +1,5 @@
 -- Answers about the policies of files.
-use Rattle.std.specs.Prelude.{◌≡◌, ℕ, ◌==◌, not, Bool, true, false, List, ◌++◌, length, Option, Some, None, Result, Ok, Err}
+use Rattle.std.specs.Prelude.{◌≡◌, ℕ, ◌==◌, not, Bool, List, ◌++◌, length, Option, Some, None, Result, Ok, Err}
 use Rattle.kapi_text.specs.Gives.{◌>>=◌}
 use Rattle.kapi_lines.specs.Lines.{lines_of}
 use Rattle.kapi_loading.specs.Faults.{FileFault, bad_line}

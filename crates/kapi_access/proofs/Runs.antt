@@ -1,5 +1,5 @@
 -- A gain more is put into the last line, or behind it.
-use Rattle.std.proofs.Common.{◌≡◌, true, false, if◌then◌else◌, List, [], ◌∷◌, ◌++◌, map, refl, sym, ap, append_assoc, ◌∙◌}
+use Rattle.std.proofs.Common.{◌≡◌, true, false, List, [], ◌∷◌, ◌++◌, map, refl, sym, ap, append_assoc, ◌∙◌}
 use Rattle.std.proofs.lemmas.List.{map-append}
 use Rattle.kapi_access.specs.Views.{gained_atoms_of}
 use Rattle.kapi_access.specs.declared.gained_rules.GainedAtoms.{GainedAtoms as AtomsGained}

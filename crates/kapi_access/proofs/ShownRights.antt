@@ -1,7 +1,7 @@
 -- What an identity has is what it may do, whether rule by rule or in lines.
 use Rattle.std.proofs.Common.{◌≡◌, ℕ, ◌+◌, Bool, true, false, ◌&&◌, ◌||◌, if◌then◌else◌, List, [], ◌∷◌, ◌++◌, length, map, refl, sym, ap, ◌∙◌, ◌==◌}
 use Rattle.std.specs.BTreeMap.{insert_entry, is_at}
-use Rattle.std.specs.List.{enumerate_from, filter, flat_map, fold, list_any}
+use Rattle.std.specs.List.{enumerate_from, filter, fold, list_any}
 use Rattle.std.specs.Map.{remove_entry}
 use Rattle.std.specs.Option.{unwrap_or}
 use Rattle.std.specs.Cmp.{Equal-is}
@@ -19,7 +19,7 @@ use Rattle.kapi_rules.specs.Rules.{allows}
 use Rattle.kapi_rules.specs.declared.point.Point.{Point}
 use Rattle.kapi_policy.proofs.Decisions.{allowed_where_held}
 use Rattle.kapi_policy.specs.All.{all_bindings}
-use Rattle.kapi_policy.specs.Decided.{Binding, bindings_in, given, held}
+use Rattle.kapi_policy.specs.Decided.{Binding, given, held}
 use Rattle.kapi_policy.specs.Objects.{PolicyObjects}
 use Rattle.kapi_gains.specs.Access.{may}
 use Rattle.kapi_access.specs.Given.{allows_at, given_at, given_by, given_so_far, lines_within, what, what_lines, with_given}

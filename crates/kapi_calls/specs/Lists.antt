@@ -1,5 +1,5 @@
 -- Answers about a whole policy.
-use Rattle.std.specs.Prelude.{◌≡◌, ℕ, ◌==◌, Bool, true, false, not, ◌&&◌, if◌then◌else◌, List, [], ◌∷◌, ◌++◌, length, Option, Some, None, Result, Ok, Err}
+use Rattle.std.specs.Prelude.{◌≡◌, ℕ, ◌==◌, Bool, true, false, ◌&&◌, if◌then◌else◌, List, [], ◌∷◌, ◌++◌, length, Option, Some, None, Result, Ok, Err}
 use Rattle.std.specs.List.{flat_map, list_all}
 use Rattle.serde_json.specs.Written.{compact_text}
 use Rattle.kapi_text.specs.Gives.{◌>>=◌}
@@ -9,7 +9,6 @@ use Rattle.kapi_model.specs.declared.role_ref.RoleRef.{RoleRef}
 use Rattle.kapi_rules.specs.declared.atom.Atom.{Atom}
 use Rattle.kapi_rules.specs.declared.point.Point.{Point}
 use Rattle.kapi_rules.specs.declared.point.Point.TheVariants as point
-use Rattle.kapi_policy.specs.Objects.{PolicyObjects}
 use Rattle.kapi_reply.specs.Status.{atom_list}
 use Rattle.kapi_access.specs.Answers.{gains_text, settled_line, ways_text, who_text}
 use Rattle.kapi_access.specs.Gained.{gained}

@@ -36,7 +36,7 @@ use Rattle.kapi_gains.proofs.Unions.{union_has}
 use Rattle.kapi_gains.specs.Access.{IsUnprivileged, may}
 use Rattle.kapi_aggregation.specs.Members.{Has}
 use Rattle.kapi_gains.specs.States.{IsSettled, Labels, PolicyState, cluster_role_at, labelled, labelled_roles, turned}
-use Rattle.kapi_gains.specs.Steps.{AreBy, DropsLabels, IsBy, IsDeleted, IsTurned, IsWritten, KeepsLabels, MadeWrite, Makes, PolicyStep, Runs, SetsLabels, deletes, turns, writes}
+use Rattle.kapi_gains.specs.Steps.{AreBy, DropsLabels, IsBy, IsWritten, KeepsLabels, MadeWrite, Makes, PolicyStep, Runs, SetsLabels, deletes, turns, writes}
 use Rattle.kapi_gains.specs.Within.{HasAtom, IsOwn, RoleHas, RolesNeverGrow, StaysWithin, scope_of}
 
 -- ---- the start

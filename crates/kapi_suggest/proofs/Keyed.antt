@@ -21,7 +21,7 @@ use Rattle.kapi_rules.specs.declared.atom.Names.TheVariants as names
 use Rattle.kapi_policy.proofs.Sets.{delete_keeps, delete_sets, put_keeps, put_sets}
 use Rattle.kapi_suggest.proofs.Bound.{any_both}
 use Rattle.kapi_suggest.specs.Needs.{is_implied}
-use Rattle.kapi_suggest.specs.Private.Keyed.{IsIndex, is_wide, key_of, name, name_among, named, target, under, unnamed, with_under}
+use Rattle.kapi_suggest.specs.Private.Keyed.{IsIndex, is_wide, key_of, name_among, named, target, under, unnamed, with_under}
 
 -- ---- whatever implies an atom lies under one of three keys
 

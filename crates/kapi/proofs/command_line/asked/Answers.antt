@@ -1,8 +1,5 @@
 -- The subcommand entered by clap is the requested one.
-use Rattle.std.proofs.Common.{◌≡◌, option_and_then, subst, sym}
-use Rattle.clap.specs.Matches.{found_of}
-use Rattle.clap.specs.Simple.{subcommand_rows_of}
-use Rattle.clap.specs.Walk.{rows_of}
+use Rattle.std.proofs.Common.{option_and_then, subst, sym}
 use Rattle.kapi.specs.Asked.{Reads, asked_by, told}
 use Rattle.kapi.proofs.Reading.{entered}
 use Rattle.kapi.proofs.command_line.asked.Goals as goal

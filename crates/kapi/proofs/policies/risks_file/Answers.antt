@@ -1,5 +1,5 @@
 use Rattle.std.proofs.Common.{Ok, sym}
-use Rattle.kapi.specs.Policies.{Reply, answered_told, risks_file, risks_on}
+use Rattle.kapi.specs.Policies.{answered_told, risks_file, risks_on}
 use Rattle.kapi.proofs.Held.{handed_on, onward}
 use Rattle.kapi.proofs.policies.risks_file.Goals as goal
 

@@ -1,5 +1,5 @@
 use Rattle.std.proofs.Common.{Ok, sym}
-use Rattle.kapi.specs.Policies.{Reply, answered_told, who_wanted, who_on}
+use Rattle.kapi.specs.Policies.{answered_told, who_wanted, who_on}
 use Rattle.kapi.proofs.Held.{handed_on, onward}
 use Rattle.kapi.proofs.policies.who_wanted.Goals as goal
 

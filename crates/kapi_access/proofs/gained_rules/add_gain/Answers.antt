@@ -1,4 +1,4 @@
-use Rattle.std.proofs.Common.{◌++◌, ◌∷◌, [], List, ap, sym, ◌∙◌}
+use Rattle.std.proofs.Common.{◌∷◌, [], List, ap, sym, ◌∙◌}
 use Rattle.kapi_rules.specs.declared.atom.Atom.{Atom}
 use Rattle.kapi_access.specs.Gained.{GainedAtoms}
 use Rattle.kapi_access.specs.Views.{gain_of, gained_atoms_of}

@@ -1,4 +1,4 @@
-use Rattle.std.proofs.Common.{◌≡◌, ◌∙◌, Ok, ap, map, refl, subst, sym}
+use Rattle.std.proofs.Common.{◌∙◌, ap, map, refl}
 use Rattle.kapi_audit.proofs.ByPolicy.{audited, audited_objects, settled_as, unanswered}
 use Rattle.kapi_lines.specs.Lines.{line_of, lines_of}
 use Rattle.kapi_loading.specs.Loading.{policy_machine}

@@ -1,7 +1,6 @@
 use Rattle.std.proofs.Common.{◌≡◌, ◌++◌, take}
 use Rattle.std.specs.List.{flat_map}
 use Rattle.kapi_paths.specs.Steps as steps
-use Rattle.kapi_paths.specs.Steps.{named}
 use Rattle.kapi_paths.proofs.steps.push_accounts_in.Given as goal
 
 abbrev pub invariant-loop-account : goal.invariant-loop-account

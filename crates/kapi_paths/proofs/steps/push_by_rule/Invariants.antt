@@ -2,7 +2,6 @@ use Rattle.std.proofs.Common.{◌≡◌, ◌++◌, map, take}
 use Rattle.std.specs.List.{flat_map}
 use Rattle.kapi_paths.specs.Rights.{row_of}
 use Rattle.kapi_paths.specs.Steps as steps
-use Rattle.kapi_paths.specs.Steps.{named}
 use Rattle.kapi_paths.proofs.steps.push_by_rule.Given as goal
 
 abbrev pub invariant-loop-right : goal.invariant-loop-right

@@ -1,4 +1,4 @@
-use Rattle.std.proofs.Common.{◌≡◌, ◌∙◌, Some, ap, refl}
+use Rattle.std.proofs.Common.{◌∙◌, Some, ap}
 use Rattle.kapi_aggregation.specs.Marks.{all_givers, all_takers, keys_if, Tracked}
 use Rattle.kapi_aggregation.proofs.Giving.{anew_covers}
 use Rattle.kapi_aggregation.proofs.tracker.Tracker.learn_anew.Goals as goal
