@@ -262,33 +262,37 @@ def patch(server, root, begin):
     return server.precise() - before
 
 
-def selector(program):
-    """A watch of thousands of requirements beside an object of thousands of labels, which is patched."""
-    labels = {f"l{number:05}": "" for number in range(LABELS)}
-    asked = ",".join(["!z"] * REQUIREMENTS)
-    with Server(program) as server:
-        root, watch = connect(ports.ROOT), connect(ports.ROOT)
-        ask(root, "POST", MAPS, {"metadata": {"name": "a", "labels": labels}})
-        alone = patch(server, root, 0)
-        ask(watch, "GET", f"{MAPS}?watch=1&labelSelector={asked}")
-        beside = patch(server, root, PATCHES)
-        watch.close()
-    figures = [("seconds of processor time without it", alone, None), ("seconds more with it", beside - alone, 0.6)]
-    return judge(f"{PATCHES} patches beside a watch of {REQUIREMENTS:,} requirements", figures)
-
-
 def keys(count):
     """So many different keys of labels, of three letters or digits each."""
     return ("".join(it) for it in itertools.islice(itertools.product("abcdefghijklmnopqrstuvwxyz0123456789", repeat=3), count))
 
 
+def requirements():
+    """Selectors of thousands of requirements: the same one, of other keys, of other values of one key."""
+    return {"equal ones": ["!z"] * REQUIREMENTS, "other keys": [f"!{key}" for key in keys(3_000)], "one key": [f"k!={key}" for key in keys(2_200)]}
+
+
+def selector(program):
+    """Watches of thousands of requirements next to an object of thousands of labels, which is patched; the last label is not met."""
+    labels = {f"l{number:05}": "" for number in range(LABELS)}
+    with Server(program) as server:
+        root = connect(ports.ROOT)
+        ask(root, "POST", MAPS, {"metadata": {"name": "a", "labels": labels}})
+        figures = [("seconds of processor time alone", patch(server, root, 0), None)]
+        for turn, (name, asked) in enumerate(requirements().items(), 1):
+            watch = connect(ports.ROOT)
+            ask(watch, "GET", f"{MAPS}?watch=1&labelSelector={','.join([*asked, f'!{max(labels)}'])}")
+            figures.append((f"seconds next to a watch with {name}", patch(server, root, turn * PATCHES), 1.2))
+            watch.close()
+    return judge(f"{PATCHES} patches next to watches of thousands of requirements", figures)
+
+
 def selected(program):
     """Lists of thousands of objects by selectors of thousands of requirements: the same one, of other keys, of other values of one key."""
     made = [{"apiVersion": "v1", "kind": "ConfigMap", "metadata": {"name": f"m{number:06}", "namespace": "default", "labels": {"k": "v"}}} for number in range(SELECTED)]
-    selectors = {"equal ones": ["!z"] * REQUIREMENTS, "of other keys": (f"!{key}" for key in keys(3_000)), "of one key": (f"k!={key}" for key in keys(2_200))}
     with Server(program, objects=made + grant("Role", "list")) as server:
         client = connect(ports.ANN)
-        figures = [(f"ms of processor time with {name}", 1000 * cost_of(server, client, "GET", f"{MAPS}?labelSelector={','.join(asked)}", ""), 60) for name, asked in selectors.items()]
+        figures = [(f"ms of processor time with {name}", 1000 * cost_of(server, client, "GET", f"{MAPS}?labelSelector={','.join(asked)}", ""), 60) for name, asked in requirements().items()]
     return judge(f"lists of {SELECTED:,} objects by thousands of requirements", figures)
 
 
