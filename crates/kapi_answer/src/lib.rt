@@ -14,7 +14,6 @@ mod kept_watch;
 pub mod laws;
 mod list_text;
 pub mod loading;
-pub mod old_object;
 mod plan;
 mod prepared;
 pub mod query;

@@ -193,7 +193,7 @@ fn plan_replace<P: Policy>(
     ensures gives { (s : APlain) → IsReplaced s replacement → Gives refused_by plan_data result (to_be_replaced s (task_data (P.content policy.now) task.entry) (new_data replacement.new)) }
     ensures same { IfOk result (λ plan. plan ≡ Plan.Replace replacement) }
 {
-    let (new, old) = (&replacement.new, &replacement.old);
+    let (new, old) = (&replacement.new, replacement.old.get());
     let (identity, name) = (task.identity, task.name);
     check_escalation(
         alloc,

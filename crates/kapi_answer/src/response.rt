@@ -1,8 +1,7 @@
-use crate::old_object::OldObject;
 use kapi_http::StatusCode;
 use kapi_object::Object;
 use kapi_reply::Content;
-use kapi_store::{Key, Ready};
+use kapi_store::{Key, Ready, Shared};
 use kapi_text::Text;
 use kapi_watch::Watch;
 
@@ -48,7 +47,7 @@ pub struct NewObject {
 #[derive(Drop)]
 pub struct Replacement {
     pub new: NewObject,
-    pub old: OldObject,
+    pub old: Shared,
 }
 
 /// The objects that are to be deleted, and the reply.

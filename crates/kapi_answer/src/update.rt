@@ -23,14 +23,13 @@ use crate::create::{
     refused, refused_by_store, text_after, with_namespace,
 };
 use crate::delete::existing;
-use crate::old_object::OldObject;
 use crate::response::{NewObject, Replacement, Response};
 use crate::route::Part;
 use kapi_http::StatusCode;
 use kapi_model::{FieldFault, ResourceRow};
 use kapi_object::{GivenText, Object, ObjectError, merge_patch, read_tree};
 use kapi_reply::{BadRequestReason, CheckError, Content, Refusal};
-use kapi_store::{Key, Store};
+use kapi_store::{Key, Shared, Store, StoredObject};
 use kapi_text::{Memory, Sequence, Text, TryCopy};
 use serde_json::Value;
 use std::alloc::Global;
@@ -49,7 +48,7 @@ pub fn check_update(
     ensures stands { IfOk result (IsReplaced (plain_of store.now)) }
 {
     let body = read_body(alloc, row, body)?;
-    check_replacement(alloc, store, row, part, key, None, body)
+    check_replacement(alloc, store, row, part, key, body)
 }
 
 /// The checks of a patch: it is a JSON object, and its target exists; the result is checked as the body of an update.
@@ -66,9 +65,9 @@ pub fn check_patch(
     ensures stands { IfOk result (IsReplaced (plain_of store.now)) }
 {
     let patch = read_patch(alloc, body)?;
-    let old = existing(store, &key)?.object(alloc)?;
-    let body = admit(alloc, row, merge(alloc, &old, &patch)?)?;
-    check_replacement(alloc, store, row, part, key, Some(old), body)
+    let merged = merge(alloc, existing(store, &key)?, &patch)?;
+    let body = admit(alloc, row, merged)?;
+    check_replacement(alloc, store, row, part, key, body)
 }
 
 fn read_patch(alloc: Global, body: &[u8]) -> Result<Value, CheckError>
@@ -83,20 +82,20 @@ fn read_patch(alloc: Global, body: &[u8]) -> Result<Value, CheckError>
     }
 }
 
-/// The object's tree with a patch applied.
-fn merge(alloc: Global, object: &Object, patch: &Value) -> Result<Value, Memory>
+/// The stored object's tree with a patch applied.
+fn merge(alloc: Global, object: &StoredObject, patch: &Value) -> Result<Value, Memory>
     requires ordered { is_ordered (view patch.now) ≡ true }
     requires nests { depth (view patch.now) ≤ max_depth }
-    ensures tree { IfOk result (λ v. view v ≡ merged (tree_of object.now) (view patch.now)) }
+    ensures tree { IfOk result (λ v. view v ≡ merged (stored_tree object.now) (view patch.now)) }
     ensures ordered { IfOk result (λ v. is_ordered (view v) ≡ true) }
     ensures nests { IfOk result (λ v. depth (view v) ≤ max_depth) }
 {
-    let merged = merge_patch(alloc, object.as_tree(), patch)?;
+    let tree = object.tree(alloc)?;
+    let merged = merge_patch(alloc, tree, patch)?;
     Ok(merged)
 }
 
 /// The checks of the object that a body was read as, in their order: name, namespace, existence and version, validity.
-/// `read` is the tree of the object that is stored at the key, where its text was read.
 #[tactic(auto, unfolding(crate::specs::Update::to_replace))]
 fn check_replacement(
     alloc: Global,
@@ -104,10 +103,8 @@ fn check_replacement(
     row: &ResourceRow,
     part: Part,
     key: Key,
-    read: Option<Object>,
     body: Admitted,
 ) -> Result<Replacement, CheckError>
-    requires { IfSome read (λ t. lookup (is_key key) (plain_of store.now).objects ≡ Some (tree_of t)) }
     ensures gives { Gives refused_by (λ r. new_data r.new) result (to_replace (plain_of store.now) row.now part key (admitted_data body)) }
     ensures stands { IfOk result (IsReplaced (plain_of store.now)) }
 {
@@ -118,7 +115,7 @@ fn check_replacement(
         &key.name,
         &body.given.namespace,
     )?;
-    let old = replaceable(alloc, store, &key, &body.given.resource_version, read)?;
+    let old = replaceable(alloc, store, &key, &body.given.resource_version)?;
     in_place_of(alloc, row, part, key, old, body.object)
 }
 
@@ -128,7 +125,7 @@ fn in_place_of(
     row: &ResourceRow,
     part: Part,
     key: Key,
-    mut old: OldObject,
+    old: Shared,
     object: Result<Object, Sequence<FieldFault>>,
 ) -> Result<Replacement, CheckError>
     ensures gives { Gives refused_by (λ r. new_data r.new) result (and_then (valid key.name (object_data object)) (λ tree. Ok (key, updates.replacing part row.now key (stored_tree old) tree))) }
@@ -136,7 +133,7 @@ fn in_place_of(
     ensures old { IfOk result (λ r. r.old ≡ old) }
 {
     let object = check_validity(alloc, &key.name, object)?;
-    let object = replacing(alloc, part, row, &key, &mut old, object)?;
+    let object = replacing(alloc, part, row, &key, old.get(), object)?;
     Ok(Replacement {
         new: NewObject { key, object },
         old,
@@ -155,20 +152,18 @@ fn check_name(alloc: Global, name: &Text, given: &GivenText) -> Result<(), Check
     Err(refused(name, Refusal::BadRequest(BadRequestReason::Name)))
 }
 
-/// The stored object, with its tree if already read, provided the body's `resourceVersion` admits a write.
+/// The stored object, provided the body's `resourceVersion` admits a write.
 fn replaceable(
     alloc: Global,
     store: &Store,
     key: &Key,
     given: &GivenText,
-    read: Option<Object>,
-) -> Result<OldObject, CheckError>
-    requires { IfSome read (λ t. lookup (is_key key.now) (plain_of store.now).objects ≡ Some (tree_of t)) }
+) -> Result<Shared, CheckError>
     ensures gives { Gives refused_by stored_tree result (stored key.now.name (Rattle.kapi_store.specs.Plain.replaceable (plain_of store.now) key.now given.now)) }
     ensures found { IfOk result (λ o. lookup (is_key key.now) (plain_of store.now).objects ≡ Some (stored_tree o)) }
 {
     match store.replaceable(key, given) {
-        Ok(object) => Ok(OldObject::new(object.share()?, read)),
+        Ok(object) => Ok(object.share()?),
         Err(error) => Err(refused_by_store(key.name.copy(alloc)?, error)),
     }
 }
@@ -180,11 +175,10 @@ fn replacing(
     part: Part,
     row: &ResourceRow,
     key: &Key,
-    old: &mut OldObject,
+    old: &StoredObject,
     object: Object,
 ) -> Result<Object, Memory>
-    ensures same { old.new ≡ old.old }
-    ensures tree { IfOk result (λ o. tree_of o ≡ updates.replacing part row.now key.now (stored_tree old.old) (tree_of object)) }
+    ensures { IfOk result (λ o. tree_of o ≡ updates.replacing part row.now key.now (stored_tree old.now) (tree_of object)) }
 {
     match part {
         Part::Object => {
@@ -192,7 +186,7 @@ fn replacing(
             let object = with_namespace(alloc, row, key.namespace.as_str(), object)?;
             keep_status(alloc, row, old, object)
         }
-        Part::Status => old.take(alloc)?.with_status_of(alloc, &object),
+        Part::Status => old.object(alloc)?.with_status_of(alloc, &object),
     }
 }
 
@@ -201,17 +195,13 @@ fn replacing(
 fn keep_status(
     alloc: Global,
     row: &ResourceRow,
-    old: &mut OldObject,
+    old: &StoredObject,
     object: Object,
 ) -> Result<Object, Memory>
-    ensures same { old.new ≡ old.old }
-    ensures tree { IfOk result (λ o. tree_of o ≡ keeping_status row.now (stored_tree old.old) (tree_of object)) }
+    ensures { IfOk result (λ o. tree_of o ≡ keeping_status row.now (stored_tree old.now) (tree_of object)) }
 {
     if row.has_status {
-        let tree = old.take(alloc)?;
-        let object = object.with_status_of(alloc, &tree)?;
-        old.keep(tree);
-        Ok(object)
+        object.with_status_of(alloc, &old.object(alloc)?)
     } else {
         Ok(object)
     }
@@ -230,11 +220,11 @@ pub fn replace(
 {
     let Replacement { new, old } = replacement;
     let name = new.key.name.copy(alloc)?;
-    match store.replace_in_place(new.key, new.object, old.stored()) {
+    match store.replace_in_place(new.key, new.object, &old) {
         Ok(ready) => Ok(Response {
             code: StatusCode::Ok,
             content: Content::Json,
-            body: text_after(alloc, Some(old.stored().get()), ready.changes())?,
+            body: text_after(alloc, Some(old.get()), ready.changes())?,
             write: Some(ready),
         }),
         Err(error) => Err(refused_by_store(name, error)),

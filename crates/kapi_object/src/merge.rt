@@ -1,28 +1,29 @@
 //! Targets with merge patches applied.
-ghost use Rattle.std.specs.Prelude.{◌≡◌, IfOk, OnOk, option_map, unwrap_or};
-ghost use Rattle.serde_json.specs.Find.{get_member};
+ghost use Rattle.std.specs.Prelude.{◌≡◌, IfOk, OnOk};
+ghost use Rattle.serde_json.specs.Data.{Data, put as with_member};
 ghost use Rattle.serde_json.specs.View.{view, members_view};
 ghost use Rattle.kapi_object.specs.Merge.{all_merged, changed, members_or_none as members_of, merged as merged_of, value_at as value_at_name, without};
 
 use kapi_text::Memory;
 use serde_json::{Map, Value, put};
 use std::alloc::Global;
+use std::mem::replace;
 
-/// The target with a merge patch applied (RFC 7396). Neither is changed.
-pub fn merge_patch(alloc: Global, target: &Value, patch: &Value) -> Result<Value, Memory>
-    ensures { IfOk result (λ v. view v ≡ merged_of (view target.now) (view patch.now)) }
+/// The target with a merge patch applied (RFC 7396). What the patch does not name stays in its place.
+pub fn merge_patch(alloc: Global, target: Value, patch: &Value) -> Result<Value, Memory>
+    ensures { IfOk result (λ v. view v ≡ merged_of (view target) (view patch.now)) }
 {
     merged(alloc, patch, target)
 }
 
 /// The patch is the first argument, since the walk ends by the patch getting smaller.
 #[cycle(merge)]
-fn merged(alloc: Global, patch: &Value, target: &Value) -> Result<Value, Memory>
-    ensures { IfOk result (λ v. view v ≡ merged_of (view target.now) (view patch.now)) }
+fn merged(alloc: Global, patch: &Value, target: Value) -> Result<Value, Memory>
+    ensures { IfOk result (λ v. view v ≡ merged_of (view target) (view patch.now)) }
 {
     match patch {
         Value::Object(patches) => {
-            let mut members = members_or_none(alloc, target)?;
+            let mut members = into_members(alloc, target);
             merge_all(alloc, patches, &mut members)?;
             Ok(Value::Object(members))
         }
@@ -62,26 +63,19 @@ fn merge_member(
         remove(members, name);
         return Ok(());
     }
-    let nothing = Value::Null;
-    let value = merged(alloc, patch, value_or(members, name, &nothing))?;
+    let value = merged(alloc, patch, take(members, name))?;
     put(members, alloc, name, value)
 }
 
-/// The value of a name, or the other value if there is none.
-fn value_or<'a>(members: &'a Map<String, Value>, name: &str, other: &'a Value) -> &'a Value
-    ensures { view result.now ≡ unwrap_or (get_member name.now (members_view members.now.entries)) (view other.now) }
+/// The value of a name, or null if there is none. Null is left in its place, for a caller that puts another value there.
+fn take(members: &mut Map<String, Value>, name: &str) -> Value
+    ensures value { view result ≡ value_at_name name.now (members_view members.old.entries) }
+    ensures others { (d : Data) → with_member name.now d (members_view members.new.entries) ≡ with_member name.now d (members_view members.old.entries) }
 {
-    match find(members, name) {
-        Some(value) => value,
-        None => other,
+    match members.get_mut(name) {
+        Some(value) => replace(value, Value::Null),
+        None => Value::Null,
     }
-}
-
-/// The value of a name, if there is one.
-fn find<'a>(members: &'a Map<String, Value>, name: &str) -> Option<&'a Value>
-    ensures { option_map (λ v. view v.now) result ≡ get_member name.now (members_view members.now.entries) }
-{
-    members.get(name)
 }
 
 /// Takes the member of a name out.
@@ -89,16 +83,6 @@ fn remove(members: &mut Map<String, Value>, name: &str)
     ensures { members_view members.new.entries ≡ without name.now (members_view members.old.entries) }
 {
     drop(members.remove(name));
-}
-
-/// The members of an object, copied; none of anything else.
-fn members_or_none(alloc: Global, value: &Value) -> Result<Map<String, Value>, Memory>
-    ensures { IfOk result (λ m. members_view m.entries ≡ members_of (view value.now)) }
-{
-    match value.as_object() {
-        Some(_members) => Ok(into_members(alloc, value.clone()?)),
-        None => Ok(Map::new(alloc)),
-    }
 }
 
 /// The members of an object; none of anything else.
