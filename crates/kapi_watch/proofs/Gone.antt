@@ -1,5 +1,5 @@
--- An object that a watch sees go has its text in the change.
-use Rattle.std.proofs.Common.{◌≡◌, ◌∙◌, ◌&&◌, List, Bool, true, false, if◌then◌else◌, Option, None, Some, option_map, codes, refl, sym, ap, subst}
+-- Objects with the same labels are watched alike, and an object that a watch sees go has its text in the change.
+use Rattle.std.proofs.Common.{◌≡◌, ◌∙◌, ◌&&◌, ℕ, List, Bool, true, false, if◌then◌else◌, Option, None, Some, is_some, option_map, codes, refl, sym, ap, subst}
 use Rattle.serde_json.specs.Data.{Data}
 use Rattle.kapi_model.specs.Selector.{label_in, matches_values, value_in}
 use Rattle.kapi_model.specs.declared.selector.Label.{Label}
@@ -25,6 +25,28 @@ unfolding is_listed
 listed_alike s k old new same =
     ap (λ at. is_within s.row s.namespace s.name k && matches_values s.selector at) (sym (labels_told new) ∙ ap value_in same ∙ labels_told old)
 
+chosen : (b : Bool) (d e : Data) → (if b then Some d else None) ≡ (if is_some (if b then Some e else None) then Some d else None)
+chosen true d e = refl
+chosen false d e = refl
+
+same_labels : (a b : List Label) → Some a ≡ Some b → a ≡ b
+same_labels a b is = cc is
+
+stays_watched : (s : Scope) (k : Key) (old : StoredObject) (new : Option StoredObject) → option_map (λ n. labels_of (stored_tree n)) new ≡ Some (labels_of (stored_tree old))
+    → selected s k (Some (stored_tree old)) ≡ (if is_some (selected s k (option_map stored_tree new)) then Some (stored_tree old) else None)
+stays_watched s k old None same = absurd (cc same)
+stays_watched s k old (Some new) same =
+    rw (listed_alike s k old new (same_labels _ _ same)) (chosen _ (stored_tree old) (stored_tree new))
+
+no_text : (o : Option (List ℕ)) → is_some o ≡ false → o ≡ None
+no_text None h = refl
+no_text (Some t) h = absurd (cc h)
+
+-- the object before a change by which labels stay was watched if the one after it is
+pub watched_alike : (s : Scope) (c : Change) (b : Bool) (old : StoredObject) → is_some c.gone ≡ false → b ≡ is_some (selected s c.key (option_map stored_tree c.new))
+    → c.old ≡ Some old → (if b then Some (stored_tree old) else None) ≡ selected s c.key (option_map stored_tree c.old)
+watched_alike s c b old none after was = rw (was, after) (sym (stays_watched s c.key old c.new (c.stays old was (no_text c.gone none))))
+
 -- what is selected is listed, and what is not is not
 is_chosen : (b : Bool) (d : Data) → (if b then Some d else None) ≡ Some d → b ≡ true
 is_chosen true d h = refl
@@ -42,11 +64,7 @@ still_there : (s : Scope) (k : Key) (old : StoredObject) (new : Option StoredObj
     → option_map (λ n. labels_of (stored_tree n)) new ≡ Some (labels_of (stored_tree old)) → ⊥
 still_there s k old None was gone same = cc same
 still_there s k old (Some new) was gone same =
-    let equal : labels_of (stored_tree new) ≡ labels_of (stored_tree old) = inside _ _ same in
-    apart _ _ (is_chosen _ (stored_tree old) was) (is_passed _ (stored_tree new) gone) (listed_alike s k old new equal)
-  where
-    inside : (a b : List Label) → Some a ≡ Some b → a ≡ b
-    inside a b is = cc is
+    apart _ _ (is_chosen _ (stored_tree old) was) (is_passed _ (stored_tree new) gone) (listed_alike s k old new (same_labels _ _ same))
 
 -- the object before a change
 was_there : (o : Option StoredObject) (d : Data) → option_map stored_tree o ≡ Some d → (s : StoredObject) × (o ≡ Some s) × (stored_tree s ≡ d)

@@ -1,5 +1,5 @@
 //! What a watch selects, and what it shows of a change.
-ghost use Rattle.std.specs.Prelude.{◌≡◌, ◌≤◌, ◌+◌, true, IfOk, None, Some, map, length, drop, option_map, slice_get};
+ghost use Rattle.std.specs.Prelude.{◌≡◌, ◌≤◌, ◌+◌, true, IfOk, None, Some, map, length, drop, is_some, option_map, slice_get};
 ghost use Rattle.std.specs.List.{filter_map, position_or_len};
 ghost use Rattle.kapi_store.specs.Stored.{stored_tree};
 ghost use Rattle.kapi_store.specs.Lent.{changes_of};
@@ -148,14 +148,28 @@ impl Scope {
         })
     }
 
+    /// The object before a change, if it was watched; `is_watched` says whether the one after it is. Where the labels
+    /// stay the selector is not asked again, since it is met by both or by neither.
+    fn selected_before<'a>(&self, change: &'a Change, is_watched: bool) -> Option<&'a StoredObject>
+        requires within { is_within_of self.now.row self.now.namespace self.now.name change.now.key ≡ true }
+        requires after { is_watched ≡ is_some (selected_of self.now change.now.key (option_map stored_tree change.now.new)) }
+        ensures { option_map (λ o. stored_tree o.now) result ≡ selected_of self.now change.now.key (option_map stored_tree change.now.old) }
+    {
+        if change.gone.is_some() {
+            return self.selected(&change.key, &change.old);
+        }
+        let old = change.old.as_ref()?;
+        if is_watched { Some(old.get()) } else { None }
+    }
+
     /// What a change at a key within the scope shows, if anything.
     #[tactic(auto, unfolding(crate::specs::Shown::shown_of))]
     fn find_within<'a>(&self, change: &'a Change) -> Option<Found<'a>>
         requires { is_within_of self.now.row self.now.namespace self.now.name change.now.key ≡ true }
         ensures { option_map found_of result ≡ shown_of self.now (plain_change change.now) }
     {
-        let old = self.selected(&change.key, &change.old);
-        let event = match (old, self.selected(&change.key, &change.new)) {
+        let new = self.selected(&change.key, &change.new);
+        let event = match (self.selected_before(change, new.is_some()), new) {
             (None, None) => return None,
             (None, Some(new)) => Event::Added(new),
             (Some(_old), Some(new)) => Event::Modified(new),
