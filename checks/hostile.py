@@ -282,7 +282,7 @@ def selector(program):
         for turn, (name, asked) in enumerate(requirements().items(), 1):
             watch = connect(ports.ROOT)
             ask(watch, "GET", f"{MAPS}?watch=1&labelSelector={','.join([*asked, f'!{max(labels)}'])}")
-            figures.append((f"seconds next to a watch with {name}", patch(server, root, turn * PATCHES), 1.2))
+            figures.append((f"seconds next to a watch with {name}", patch(server, root, turn * PATCHES), 0.8))
             watch.close()
     return judge(f"{PATCHES} patches next to watches of thousands of requirements", figures)
 
@@ -428,7 +428,7 @@ def trees(program):
         labelled = cost_of(server, root, "POST", REVIEWS, head + '"metadata":{"labels":{' + labels + "}}}")
         cost_of(server, root, "POST", MAPS, stored)
         patched = cost_of(server, root, "PATCH", f"{MAPS}/a", '{"data":{"k":"1"}}')
-    return judge("a review of a megabyte and a patch of one", [("seconds of processor time", reviewed, 0.5), ("of labels", labelled, 0.5), ("of the patch", patched, 1)])
+    return judge("a review of a megabyte and a patch of one", [("seconds of processor time", reviewed, 0.5), ("of labels", labelled, 0.5), ("of the patch", patched, 0.5)])
 
 
 def cost_of(server, client, method, path, body):
