@@ -33,6 +33,7 @@ LINE_BYTES = 64_000_000
 LABELS, REQUIREMENTS, PATCHES = 2_000, 5_000, 200
 GROUPS, REPEATS, BINDINGS = 16_000, 1_000, 2_000
 MAPS = "/api/v1/namespaces/default/configmaps"
+PODS = "/api/v1/namespaces/default/pods"
 REVIEWS = "/apis/authorization.k8s.io/v1/selfsubjectaccessreviews"
 ROLES = f"/apis/{RBAC}/v1/namespaces/default/roles"
 STARVED_CLIENTS, STARVED_SECONDS, LONG = 50, 20, 320
@@ -421,14 +422,19 @@ def trees(program):
     junk = ",".join(['{"":0}'] * (1_000_000 // 7))
     labels = ",".join(f'"{number:06}":""' for number in range(1_000_000 // 12))
     head = '{"apiVersion":"authorization.k8s.io/v1","kind":"SelfSubjectAccessReview","spec":{"resourceAttributes":{"verb":"get"}},'
-    stored = '{"apiVersion":"v1","kind":"ConfigMap","metadata":{"name":"a"},"x":[' + junk + "]}"
+    stored = '{"metadata":{"name":"a"},"x":[' + junk + "]}"
     with Server(program) as server:
         root = connect(ports.ROOT)
         reviewed = cost_of(server, root, "POST", REVIEWS, head + '"x":[' + junk + "]}")
         labelled = cost_of(server, root, "POST", REVIEWS, head + '"metadata":{"labels":{' + labels + "}}}")
-        cost_of(server, root, "POST", MAPS, stored)
-        patched = cost_of(server, root, "PATCH", f"{MAPS}/a", '{"data":{"k":"1"}}')
-    return judge("a review of a megabyte and a patch of one", [("seconds of processor time", reviewed, 0.5), ("of labels", labelled, 0.5), ("of the patch", patched, 0.5)])
+        patched = [patch_of(server, root, place, stored) for place in (MAPS, PODS)]
+    return judge("a review of a megabyte and a patch of one", [("seconds of processor time", reviewed, 0.5), ("of labels", labelled, 0.5), ("of a patch", patched[0], 0.5), ("of a patch of a Pod, whose status is kept", patched[1], 0.5)])
+
+
+def patch_of(server, client, place, stored):
+    """Seconds of the server's processor time for a small patch of an object that is created before."""
+    cost_of(server, client, "POST", place, stored)
+    return cost_of(server, client, "PATCH", f"{place}/a", '{"data":{"k":"1"}}')
 
 
 def cost_of(server, client, method, path, body):
