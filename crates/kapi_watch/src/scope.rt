@@ -148,8 +148,8 @@ impl Scope {
         })
     }
 
-    /// The object before a change, if it was watched; `is_watched` says whether the one after it is. Where the labels
-    /// stay the selector is not asked again, since it is met by both or by neither.
+    /// The object before a change, if it was watched; `is_watched` says whether the one after it is. If the labels
+    /// stay, the selector is not asked again, since it is met by both or by neither.
     fn selected_before<'a>(&self, change: &'a Change, is_watched: bool) -> Option<&'a StoredObject>
         requires within { is_within_of self.now.row self.now.namespace self.now.name change.now.key ≡ true }
         requires after { is_watched ≡ is_some (selected_of self.now change.now.key (option_map stored_tree change.now.new)) }
