@@ -86,16 +86,17 @@ def request(method, path, body=""):
 
 def whole_answer(client):
     """An answer with its body, in whatever pieces it comes; of a watch its head, since that has no length."""
-    answer = b""
-    while True:
-        head, found, body = answer.partition(b"\r\n\r\n")
-        length = re.search(rb"Content-Length: (\d+)", head)
-        if found and len(body) >= int(length[1] if length else 0):
-            return answer
+    answer, whole = bytearray(), None
+    while whole is None or len(answer) < whole:
         piece = client.recv(65536)
         if not piece:
-            raise ConnectionError(f"the connection ended behind {answer}")
+            raise ConnectionError(f"the connection ended behind {bytes(answer)}")
         answer += piece
+        end = answer.find(b"\r\n\r\n") if whole is None else -1
+        if end >= 0:
+            length = re.search(rb"Content-Length: (\d+)", answer[:end])
+            whole = end + 4 + int(length[1] if length else 0)
+    return bytes(answer)
 
 
 def ask(client, method, path, item=None):
