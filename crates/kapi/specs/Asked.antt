@@ -9,8 +9,8 @@ use Rattle.clap.specs.declared.error.kind.ErrorKind.TheVariants.{DisplayHelp, Di
 use Rattle.kapi.specs.CommandLine.{kapi}
 use Rattle.kapi.specs.Listens.{◌>>=◌, few, listens_of}
 use Rattle.kapi.specs.Numbers.{port_of, readers_of, revision_of}
-use Rattle.kapi_access.specs.declared.answer.Form.{Form}
-use Rattle.kapi_access.specs.declared.answer.Form.TheVariants as form
+use Rattle.kapi_lines.specs.declared.form.Form.{Form}
+use Rattle.kapi_lines.specs.declared.form.Form.TheVariants as form
 use Rattle.kapi.specs.declared.program.Asking.{Asking}
 use Rattle.kapi.specs.declared.program.AuditFiles.{AuditFiles}
 use Rattle.kapi.specs.declared.program.Command.{Command}

@@ -12,7 +12,7 @@ use Rattle.kapi_access.specs.Risks.{risks}
 use Rattle.kapi_access.specs.Answers.{gains_text, settled_line, ways_text, who_text}
 use Rattle.kapi_access.specs.Lines.{LineError, answered_lines, no_question}
 use Rattle.kapi_access.specs.Rights.{what_text}
-use Rattle.kapi_access.specs.declared.answer.Form.{Form}
+use Rattle.kapi_lines.specs.declared.form.Form.{Form}
 use Rattle.kapi_access.specs.declared.answer.Shown.{Shown}
 use Rattle.kapi_access.specs.declared.question.Wanted.{Wanted}
 use Rattle.kapi_access.specs.declared.rights.Holder.{Holder}

@@ -6,7 +6,7 @@ use Rattle.kapi_lines.specs.Lines.{NumberedLine, line_of}
 use Rattle.kapi_lines.specs.declared.line.Line.{Line}
 use Rattle.kapi_policy.specs.Objects.{PolicyObjects}
 use Rattle.kapi_access.specs.Lines.{LineError, answered, answered_lines}
-use Rattle.kapi_access.specs.declared.answer.Form.{Form}
+use Rattle.kapi_lines.specs.declared.form.Form.{Form}
 
 -- a text in front of the one that is given
 abbrev pub prefixed : List ℕ → Result (List ℕ) LineError → Result (List ℕ) LineError

@@ -11,8 +11,8 @@ use Rattle.kapi_access.specs.Members.{gain_line, way_line}
 use Rattle.kapi_access.specs.Tables.{table_below, table_in}
 use Rattle.kapi_access.specs.declared.grantee.Grantee.{Grantee}
 use Rattle.kapi_access.specs.declared.grantee.Grantee.TheVariants as grantee
-use Rattle.kapi_access.specs.declared.answer.Form.{Form}
-use Rattle.kapi_access.specs.declared.answer.Form.TheVariants as form
+use Rattle.kapi_lines.specs.declared.form.Form.{Form}
+use Rattle.kapi_lines.specs.declared.form.Form.TheVariants as form
 use Rattle.kapi_access.specs.declared.answer.Shown.{Shown}
 use Rattle.kapi_access.specs.declared.answer.Shown.TheVariants as shown
 use Rattle.kapi_access.specs.declared.question.Wanted.{Wanted}

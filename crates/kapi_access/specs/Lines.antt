@@ -8,8 +8,8 @@ use Rattle.kapi_lines.specs.Lines.{NumberedLine}
 use Rattle.kapi_policy.specs.Objects.{PolicyObjects}
 use Rattle.kapi_access.specs.Answers.{who_text}
 use Rattle.kapi_access.specs.Questions.{question_in}
-use Rattle.kapi_access.specs.declared.answer.Form.{Form}
-use Rattle.kapi_access.specs.declared.answer.Form.TheVariants as form
+use Rattle.kapi_lines.specs.declared.form.Form.{Form}
+use Rattle.kapi_lines.specs.declared.form.Form.TheVariants as form
 use Rattle.kapi_access.specs.declared.lines.LineFault.{LineFault}
 use Rattle.kapi_access.specs.declared.lines.LineFault.TheVariants as fault
 use Rattle.kapi_access.specs.declared.question.Wanted.{Wanted}

@@ -15,8 +15,8 @@ use Rattle.kapi_access.specs.declared.scoped.ScopedRule.{ScopedRule}
 use Rattle.kapi_access.specs.Answers.{masters_line}
 use Rattle.kapi_access.specs.Cells.{binding_kind, listed, namespace_cell, targets, text_of_grant, without_comma}
 use Rattle.kapi_access.specs.Tables.{table_below}
-use Rattle.kapi_access.specs.declared.answer.Form.{Form}
-use Rattle.kapi_access.specs.declared.answer.Form.TheVariants as form
+use Rattle.kapi_lines.specs.declared.form.Form.{Form}
+use Rattle.kapi_lines.specs.declared.form.Form.TheVariants as form
 use Rattle.kapi_access.specs.declared.rights.Holder.{Holder}
 use Rattle.kapi_access.specs.declared.table.Cells.{Cells}
 

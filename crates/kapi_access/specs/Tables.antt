@@ -1,8 +1,8 @@
 -- Tables, with columns as wide as their longest cells, or in Markdown (GitHub Flavored Markdown, 'Tables').
 use Rattle.std.specs.Prelude.{ℕ, ◌-◌, ◌==◌, max, if◌then◌else◌, List, [], ◌∷◌, ◌++◌, length, replicate, codes}
 use Rattle.std.specs.List.{flat_map}
-use Rattle.kapi_access.specs.declared.answer.Form.{Form}
-use Rattle.kapi_access.specs.declared.answer.Form.TheVariants as form
+use Rattle.kapi_lines.specs.declared.form.Form.{Form}
+use Rattle.kapi_lines.specs.declared.form.Form.TheVariants as form
 use Rattle.kapi_access.specs.declared.table.Cells.{Cells}
 use Rattle.kapi_access.specs.declared.table.Widths.{Widths}
 

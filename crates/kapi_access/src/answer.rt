@@ -22,23 +22,13 @@ use crate::question::Wanted;
 use crate::risky::{is_grave, risks};
 use crate::table::{Cells, push_below, push_table};
 use crate::way::Way;
+use kapi_lines::Form;
 use kapi_policy::{Binding, Policy};
 use kapi_text::Memory;
 use std::alloc::Global;
 
-/// How an answer is printed.
-#[derive(Clone, Copy, Debug, PartialEq, Eq)]
-pub enum Form {
-    /// Columns for people.
-    Table,
-    /// A table in Markdown, as pull requests show it.
-    Markdown,
-    /// A JSON object a line.
-    Json,
-}
-
 /// By what a table of gains has a line.
-#[derive(Clone, Copy, Debug, PartialEq, Eq)]
+#[derive(Clone, Copy, PartialEq, Eq)]
 pub enum Shown {
     /// By the rules that the atoms make together.
     Rules,

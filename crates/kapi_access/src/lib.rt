@@ -27,7 +27,7 @@ mod way;
 
 pub use allowed::who;
 pub use alone::asked_as;
-pub use answer::{Compared, Form, Shown, answer_compare, answer_risks, answer_who, settled_line};
+pub use answer::{Compared, Shown, answer_compare, answer_risks, answer_who, settled_line};
 pub use dangling::{Covered, absent_accounts, bound_places, covered_rules, dangles};
 pub use gained::{Gain, compare};
 pub use gained_rules::{GainedRule, by_rule};
@@ -35,6 +35,7 @@ pub use given::{Given, GivenBy, given_lines, what};
 pub use grantee::Grantee;
 pub use identities::Identities;
 pub use joining::together;
+pub use kapi_lines::Form;
 pub use lines::{LineFault, answer_lines};
 pub use question::{Scope, Wanted, question_of, read_question_line};
 pub use rights::{Holder, answer_what};

@@ -10,16 +10,16 @@ ghost use Rattle.kapi_access.specs.Lines as told;
 ghost use Rattle.kapi_access.specs.Lines.{answered, answered_lines, fault_told};
 ghost use Rattle.kapi_access.specs.Answers.{who_text};
 
-use crate::answer::{Form, answer_who};
+use crate::answer::answer_who;
 use crate::question::{Wanted, read_question_line};
-use kapi_lines::{Line, write_escaped};
+use kapi_lines::{Form, Line, write_escaped};
 use kapi_policy::{Binding, Policy};
 use kapi_text::Memory;
 use serde_json::{Value, json};
 use std::alloc::{AllocError, Global};
 
 /// Why lines have no answer.
-#[derive(Clone, Copy, Debug, PartialEq, Eq)]
+#[derive(Clone, Copy, PartialEq, Eq)]
 pub enum LineFault {
     /// The line of this number is no question; the first line of a file is 1.
     Question(usize),

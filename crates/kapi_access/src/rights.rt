@@ -10,11 +10,12 @@ ghost use Rattle.kapi_policy.specs.Views.{binding_of};
 ghost use Rattle.kapi_access.specs.Rights as printed;
 ghost use Rattle.kapi_access.specs.Tables.{table_below};
 
-use crate::answer::{Form, MASTERS_LINE};
+use crate::answer::MASTERS_LINE;
 use crate::cells::{binding_kind, escape, namespace_cell, targets_cell, text_of_grant, texts_cell};
 use crate::given::{GivenBy, given_lines, what};
 use crate::scoped::ScopedRule;
 use crate::table::{Cells, push_below, words};
+use kapi_lines::Form;
 use kapi_model::Identity;
 use kapi_object::tree_form::{ToTree, put_string};
 use kapi_policy::{Binding, Policy};
@@ -24,7 +25,7 @@ use std::alloc::Global;
 use std::collections::BTreeMap;
 
 /// Of whom it is asked what they have, in a namespace or, without one, everywhere.
-#[derive(Debug, Drop)]
+#[derive(Drop)]
 pub struct Holder {
     pub identity: Identity,
     pub within: Option<Text>,

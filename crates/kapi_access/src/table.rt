@@ -4,8 +4,7 @@ ghost use Rattle.std.specs.List.{flat_map};
 ghost use Rattle.kapi_access.specs.Tables as tables;
 ghost use Rattle.kapi_access.specs.Tables.{padded, row_line, widths_of};
 
-use crate::answer::Form;
-use kapi_lines::copy_of;
+use kapi_lines::{Form, copy_of};
 use kapi_text::{Memory, Sequence};
 use std::alloc::Global;
 

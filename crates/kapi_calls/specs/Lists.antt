@@ -14,8 +14,8 @@ use Rattle.kapi_access.specs.Answers.{gains_text, settled_line, ways_text, who_t
 use Rattle.kapi_access.specs.Gained.{gained}
 use Rattle.kapi_access.specs.Rights.{what_text}
 use Rattle.kapi_access.specs.Risks.{risks}
-use Rattle.kapi_access.specs.declared.answer.Form.{Form}
-use Rattle.kapi_access.specs.declared.answer.Form.TheVariants as form
+use Rattle.kapi_lines.specs.declared.form.Form.{Form}
+use Rattle.kapi_lines.specs.declared.form.Form.TheVariants as form
 use Rattle.kapi_access.specs.declared.answer.Shown.TheVariants as shown
 use Rattle.kapi_access.specs.declared.identities.Identities.TheVariants as whose
 use Rattle.kapi_access.specs.declared.question.Scope.{Scope}

@@ -1,8 +1,8 @@
 -- Who can become whom, as it is printed.
 use Rattle.std.specs.Prelude.{◌≡◌, ℕ, Bool, true, false, List, [], ◌++◌}
 use Rattle.kapi_access.specs.Answers.{settled_line}
-use Rattle.kapi_access.specs.declared.answer.Form.{Form}
-use Rattle.kapi_access.specs.declared.answer.Form.TheVariants as form
+use Rattle.kapi_lines.specs.declared.form.Form.{Form}
+use Rattle.kapi_lines.specs.declared.form.Form.TheVariants as form
 use Rattle.kapi_paths.specs.Printed.{IsAnswer}
 use Rattle.kapi_paths.specs.Rights.{rights_without}
 use Rattle.kapi_policy.specs.All.{all_bindings}

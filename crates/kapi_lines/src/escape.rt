@@ -9,7 +9,7 @@ use std::alloc::Global;
 use std::io::{self, Write};
 
 /// The place of a reader in a script's text.
-#[derive(Clone, Copy, Debug, PartialEq, Eq)]
+#[derive(Clone, Copy, PartialEq, Eq)]
 pub enum EscapeState {
     Plain,
     /// Behind a backslash.
@@ -21,7 +21,7 @@ pub enum EscapeState {
 }
 
 /// What a byte of a script's text does.
-#[derive(Clone, Copy, Debug, PartialEq, Eq)]
+#[derive(Clone, Copy, PartialEq, Eq)]
 pub enum Effect {
     /// The byte ends the text of this byte.
     Byte(u8),

@@ -8,7 +8,7 @@ use kapi_text::{Memory, Sequence};
 use std::alloc::Global;
 
 /// A line that is neither empty nor a comment, and its number among all lines, from 1.
-#[derive(Clone, Copy, Debug)]
+#[derive(Clone, Copy)]
 pub struct Line<'a> {
     pub number: usize,
     pub text: &'a [u8],
