@@ -1,4 +1,4 @@
-"""Tries a random dozen of the edits in crates/*/edits: small bugs that the prover must refuse.
+"""Tries a dozen of the edits in crates/*/edits, small bugs that the prover must refuse: ten of the decisions and COUNT others.
 
 usage: python3 -m checks.edits PROGRAM [COUNT [SUM]]     drawn by the sum of the sources, so that a run can be repeated; or CRATE/NAME,CRATE/NAME.. for COUNT
 
@@ -17,6 +17,19 @@ from concurrent.futures import ThreadPoolExecutor
 
 ROOT = pathlib.Path(__file__).resolve().parent.parent
 CRATES = pathlib.Path(os.environ.get("KAPI_LIBRARIES", ROOT / "crates"))
+# Bugs that would let somebody do what no rule allows, or refuse what one does. Every gate tries them.
+ALWAYS = [
+    "kapi_answer/every_request_is_answered_alike",
+    "kapi_answer/the_route_comes_before_authorization",
+    "kapi_index/a_deleted_binding_stays_in_the_index",
+    "kapi_guard/a_binding_to_a_missing_role_passes",
+    "kapi_guard/an_update_looks_only_at_added_rules",
+    "kapi_guard/the_groups_are_not_checked",
+    "kapi_aggregation/rules_are_only_added",
+    "kapi_reviews/a_resource_with_a_slash_is_asked_about_beside_a_subresource",
+    "kapi_rules/a_name_covers_all_names",
+    "kapi_rules/any_resource_with_a_subresource_covers_the_resource",
+]
 KIT = pathlib.Path(shutil.which("rt") or "/rt").resolve().parent.parent
 
 
@@ -94,16 +107,22 @@ def tried(edit):
         return False, "the crate is still proved" if status == 0 else f"status {status}: {' '.join(lines[-3:])[:400]}"
 
 
-def main(count="12", seed=""):
+def named(name):
+    crate, _, edit = name.partition("/")
+    return ROOT / "crates" / crate / "edits" / f"{edit}.edit"
+
+
+def main(count="2", seed=""):
     if not shutil.which("rt"):
         return "rt, the Rattle toolchain, is not on the PATH"
     edits = sorted((ROOT / "crates").glob("*/edits/*.edit"))
     if count.isdigit():
         seed = seed or subprocess.run(["sh", "tools/sources.sh"], cwd=ROOT, stdout=subprocess.PIPE, text=True, check=True).stdout.split()[0]
-        edits = random.Random(seed).sample(edits, int(count))
-        print(f"{count} edits drawn by {seed}")
+        always = [named(it) for it in ALWAYS]
+        edits = always + random.Random(seed).sample([it for it in edits if it not in always], int(count))
+        print(f"{len(always)} edits, and {count} drawn by {seed}")
     else:
-        edits = [ROOT / "crates" / it.split("/")[0] / "edits" / f"{it.split('/')[1]}.edit" for it in count.split(",")]
+        edits = [named(it) for it in count.split(",")]
     with ThreadPoolExecutor(min(4, os.cpu_count())) as pool:
         results = list(pool.map(tried, edits))
     for edit, (is_refused, said) in zip(edits, results):

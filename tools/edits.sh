@@ -1,5 +1,5 @@
 #!/bin/sh
-# Tries the edits of crates/NAME/edits that the gate does not try, of the crates that are named, or of all: the prover must refuse each.
+# Tries all edits of crates/NAME/edits, of the crates that are named, or of all: the prover must refuse each.
 set -e
 room=$(mktemp -d)
 trap 'rm -rf "$room"' EXIT
