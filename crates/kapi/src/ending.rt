@@ -7,7 +7,7 @@ ghost use Rattle.kapi.specs.Endings.{compared_as, played_as, status_of};
 use std::process::ExitCode;
 
 /// How a program ends.
-#[derive(Clone, Copy, Debug, PartialEq, Eq)]
+#[derive(Clone, Copy, PartialEq, Eq)]
 pub enum Ending {
     /// What was asked for is done.
     Done,

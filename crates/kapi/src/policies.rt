@@ -35,7 +35,7 @@ pub struct Answered {
 }
 
 /// Why there is no answer.
-#[derive(Clone, Copy, Debug, PartialEq, Eq)]
+#[derive(Clone, Copy, PartialEq, Eq)]
 pub enum FilesFault {
     /// The line of this number of the first policy is not loaded; the first line of a file is 1.
     First(usize),

@@ -40,7 +40,7 @@ pub enum Command {
 }
 
 /// How the files of a policy are read as manifests.
-#[derive(Debug, Drop)]
+#[derive(Drop)]
 pub struct Reading {
     /// Files that are read as one with the policy, by their names.
     pub with: Vec<String>,
@@ -53,7 +53,7 @@ pub struct Reading {
 }
 
 /// What is common to the programs that ask about a policy.
-#[derive(Debug, Drop)]
+#[derive(Drop)]
 pub struct Asking {
     /// The name of the policy's file.
     pub policy: String,
@@ -62,7 +62,7 @@ pub struct Asking {
 }
 
 /// The policies that are compared.
-#[derive(Debug, Drop)]
+#[derive(Drop)]
 pub struct CompareWords {
     /// The name of the earlier policy's file.
     pub before: String,
@@ -77,7 +77,7 @@ pub struct CompareWords {
 }
 
 /// What is asked of a policy.
-#[derive(Debug, Drop)]
+#[derive(Drop)]
 pub enum WhoQuestion {
     Words(WhoWanted),
     /// A file of questions, by its name.
@@ -85,7 +85,7 @@ pub enum WhoQuestion {
 }
 
 /// The words of a question; the namespace and the name are empty if they are left out.
-#[derive(Debug, Drop)]
+#[derive(Drop)]
 pub struct WhoWanted {
     pub verb: String,
     pub resource: String,
@@ -96,14 +96,14 @@ pub struct WhoWanted {
 }
 
 /// The policy that is asked who may do something.
-#[derive(Debug, Drop)]
+#[derive(Drop)]
 pub struct WhoWords {
     pub asking: Asking,
     pub question: WhoQuestion,
 }
 
 /// The arguments of `kapi what`: the policy, the user, and the groups of the user.
-#[derive(Debug, Drop)]
+#[derive(Drop)]
 pub struct WhatWords {
     pub asking: Asking,
     pub user: String,
@@ -111,7 +111,7 @@ pub struct WhatWords {
 }
 
 /// The policy that is asked who can become whom.
-#[derive(Debug, Drop)]
+#[derive(Drop)]
 pub struct PathsWords {
     pub asking: Asking,
     /// To whom the printed paths lead; empty if all paths are printed.
@@ -121,7 +121,7 @@ pub struct PathsWords {
 }
 
 /// What was used, and the policy that may allow it.
-#[derive(Debug, Drop)]
+#[derive(Drop)]
 pub struct SuggestWords {
     /// The name of the file of uses.
     pub uses: String,
@@ -135,7 +135,7 @@ pub struct SuggestWords {
 }
 
 /// The files of an audit, by their names, and how many threads answer.
-#[derive(Debug, Drop)]
+#[derive(Drop)]
 pub struct AuditFiles {
     pub policy: String,
     pub questions: String,
@@ -191,7 +191,7 @@ pub struct ServeOptions {
 }
 
 /// A port of 127.0.0.1, and the identity of each of its clients.
-#[derive(Debug, Drop)]
+#[derive(Drop)]
 pub struct Listen {
     /// The number of the port; a free one is taken for 0.
     pub port: u16,

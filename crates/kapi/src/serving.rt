@@ -27,7 +27,7 @@ use std::thread::{self, Threads};
 use std::time::{Clock, Duration};
 
 /// The port that cannot be listened on, and why.
-#[derive(Clone, Copy, Debug)]
+#[derive(Clone, Copy)]
 struct Refused {
     port: u16,
     error: io::Error,

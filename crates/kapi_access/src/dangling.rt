@@ -128,7 +128,7 @@ pub fn bound_places(
 // ---- rules
 
 /// A rule that another of its role covers, by their indices.
-#[derive(Clone, Copy, Debug, PartialEq, Eq)]
+#[derive(Clone, Copy, PartialEq, Eq)]
 pub struct Covered {
     pub rule: usize,
     pub by: usize,

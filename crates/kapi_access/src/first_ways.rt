@@ -16,7 +16,7 @@ use std::collections::BTreeSet;
 use std::marker::Model;
 
 /// How often a user or group is listed.
-#[derive(Clone, Copy, Debug, PartialEq, Eq)]
+#[derive(Clone, Copy, PartialEq, Eq)]
 pub enum Listed {
     /// Once, by its first way of all.
     Once,

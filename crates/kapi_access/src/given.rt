@@ -16,7 +16,7 @@ use std::alloc::Global;
 use std::collections::BTreeMap;
 
 /// A binding, and the index of its role's rule.
-#[derive(Debug, Drop)]
+#[derive(Drop)]
 pub struct GivenBy {
     pub kind: BindingKind,
     /// The binding's name.
@@ -27,7 +27,7 @@ pub struct GivenBy {
 }
 
 /// A rule that a binding gives, where the binding counts.
-#[derive(Debug, Drop)]
+#[derive(Drop)]
 pub struct Given {
     pub at: ScopedRule,
     pub by: GivenBy,

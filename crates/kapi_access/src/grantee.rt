@@ -10,7 +10,7 @@ use kapi_text::{Memory, Text, TryCopy};
 use std::alloc::{AllocError, Global};
 
 /// A user or a group to whom a binding gives its role. A service account is the user that it is.
-#[derive(Debug, Drop)]
+#[derive(Drop)]
 pub enum Grantee {
     User(Text),
     Group(Text),

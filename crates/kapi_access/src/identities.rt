@@ -1,5 +1,5 @@
 /// About whom a question is.
-#[derive(Clone, Copy, Debug)]
+#[derive(Clone, Copy)]
 pub enum Identities {
     /// All that can be: any user, in any groups or in none.
     Any,

@@ -16,7 +16,7 @@ use kapi_text::{Memory, Sequence, Text, TryCopy};
 use std::alloc::Global;
 
 /// The lists of a rule by which two are put together, all others being equal.
-#[derive(Clone, Copy, Debug)]
+#[derive(Clone, Copy)]
 pub enum Part {
     Names,
     Verbs,

@@ -9,7 +9,7 @@ use kapi_text::{Memory, Text};
 use std::alloc::Global;
 
 /// Where something is asked about.
-#[derive(Debug, Drop)]
+#[derive(Drop)]
 pub enum Scope {
     /// In this namespace.
     Namespace(Text),
@@ -20,7 +20,7 @@ pub enum Scope {
 }
 
 /// What somebody may do, and where.
-#[derive(Debug, Drop)]
+#[derive(Drop)]
 pub struct Wanted {
     pub scope: Scope,
     pub point: Point,

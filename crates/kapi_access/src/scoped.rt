@@ -7,7 +7,7 @@ use kapi_text::{Sequence, Text};
 use std::cmp::Ordering;
 
 /// A rule and the namespace in which it counts, empty where it counts everywhere. Keys of maps are in the order of their entries.
-#[derive(Debug, Drop)]
+#[derive(Drop)]
 pub struct ScopedRule {
     pub rule: PolicyRule,
     pub namespace: Text,

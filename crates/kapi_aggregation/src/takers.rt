@@ -16,7 +16,7 @@ use std::collections::BTreeSet;
 
 /// A cluster role at a label. A role that takes rules is at the first label of one of its selectors, or at an empty one
 /// if the selector lists none; a role that gives rules is at one of its own labels.
-#[derive(Debug, PartialEq, Eq, PartialOrd, Ord, Drop)]
+#[derive(PartialEq, Eq, PartialOrd, Ord, Drop)]
 pub struct Taker {
     pub label: Text,
     pub name: Text,

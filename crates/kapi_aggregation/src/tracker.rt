@@ -24,7 +24,7 @@ use std::mem::replace;
 const ROOM: usize = 64;
 
 /// The names of the cluster roles that may differ from their unions, and of the aggregated ones.
-#[derive(Debug, Drop)]
+#[derive(Drop)]
 pub struct Tracker {
     alloc: Global,
     marks: BTreeSet<Text>,

@@ -27,7 +27,7 @@ use std::alloc::Global;
 use std::collections::BTreeSet;
 
 /// The aggregated cluster role of the name is to have these rules in place of its own, which differ.
-#[derive(Debug, Drop)]
+#[derive(Drop)]
 pub struct Turn {
     pub name: Text,
     pub rules: Sequence<PolicyRule>,

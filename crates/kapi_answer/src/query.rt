@@ -13,7 +13,7 @@ use kapi_text::{Sequence, Text, are_digits, number};
 use std::alloc::Global;
 
 /// Which objects of a collection are asked for.
-#[derive(Debug, Drop)]
+#[derive(Drop)]
 pub struct Filter {
     pub selector: Selector,
     /// The name, empty for all names.

@@ -12,7 +12,7 @@ use kapi_rules::{Point, ResourcePoint};
 use kapi_store::Store;
 
 /// Which part of an object is read or written.
-#[derive(Clone, Copy, Debug, PartialEq, Eq)]
+#[derive(Clone, Copy, PartialEq, Eq)]
 pub enum Part {
     /// All but the status, if that is a subresource.
     Object,
@@ -20,7 +20,7 @@ pub enum Part {
 }
 
 /// The action at a place (Kubernetes, 'Kubernetes API Concepts', API verbs).
-#[derive(Clone, Copy, Debug, PartialEq, Eq)]
+#[derive(Clone, Copy, PartialEq, Eq)]
 pub enum Action {
     Create,
     Delete,

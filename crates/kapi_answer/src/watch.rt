@@ -40,7 +40,7 @@ pub struct Watching {
 }
 
 /// What becomes of a watch, and of its connection, after an event was sent.
-#[derive(Clone, Copy, Debug, PartialEq, Eq)]
+#[derive(Clone, Copy, PartialEq, Eq)]
 pub enum After {
     /// The watch goes on.
     Watches,
@@ -51,7 +51,7 @@ pub enum After {
 }
 
 /// The bytes of an event.
-#[derive(Debug, Drop)]
+#[derive(Drop)]
 pub struct EventReply {
     pub bytes: Sequence<u8>,
     pub after: After,

@@ -8,7 +8,7 @@ pub trait Gate {
 }
 
 /// A gate that holds no reader.
-#[derive(Clone, Copy, Debug)]
+#[derive(Clone, Copy)]
 pub struct NoGate;
 
 impl Gate for NoGate {

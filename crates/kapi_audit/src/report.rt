@@ -16,7 +16,7 @@ use std::alloc::Global;
 use std::io::{self, Write};
 
 /// What was made of a line.
-#[derive(Debug, Drop)]
+#[derive(Drop)]
 pub enum Report {
     /// The line is empty or a comment.
     Skipped,

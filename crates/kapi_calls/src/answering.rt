@@ -20,7 +20,7 @@ use std::alloc::Global;
 
 /// What stands beside the text: a decision or another number, and the length of the text.
 #[repr(C)]
-#[derive(Clone, Copy, Debug)]
+#[derive(Clone, Copy)]
 pub struct Answer {
     pub decision: u32,
     pub length: usize,

@@ -4,7 +4,7 @@ ghost use Rattle.kapi_calls.specs.Faults.{code_of};
 use kapi_text::Memory;
 
 /// Why a call has no answer.
-#[derive(Clone, Copy, Debug, PartialEq, Eq)]
+#[derive(Clone, Copy, PartialEq, Eq)]
 pub enum CallFault {
     Memory,
     /// The line of this number of other objects is not loaded.

@@ -14,7 +14,7 @@ use kapi_text::{Memory, Sequence, Text};
 use std::alloc::Global;
 
 /// Whether an identity may do something in a namespace, or cluster-wide if the namespace is empty.
-#[derive(Debug, Drop)]
+#[derive(Drop)]
 pub struct AccessQuestion {
     pub identity: Identity,
     pub namespace: Text,

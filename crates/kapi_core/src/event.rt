@@ -4,11 +4,11 @@ use kapi_text::{Memory, Sequence, Text};
 use thiserror::Error;
 
 /// The number of a connection. Numbers count up from 0 and are not used again.
-#[derive(Clone, Copy, Debug, PartialEq, Eq)]
+#[derive(Clone, Copy, PartialEq, Eq)]
 pub struct ConnId(pub u64);
 
 /// What happens to the machine.
-#[derive(Debug, Drop)]
+#[derive(Drop)]
 pub enum Event {
     /// A connection is opened for an identity.
     Open(Identity),
@@ -25,7 +25,7 @@ pub enum Event {
 }
 
 /// A write of the controller: its revision, the name of the written role, and what the write changed in the policy.
-#[derive(Debug, Drop)]
+#[derive(Drop)]
 pub struct Turned {
     pub revision: u64,
     pub name: Text,
@@ -34,7 +34,7 @@ pub struct Turned {
 }
 
 /// The bytes that are sent on a connection, and what the step changed in the policy.
-#[derive(Debug, Drop)]
+#[derive(Drop)]
 pub struct Output {
     pub bytes: Sequence<u8>,
     /// The connection has ended with these bytes.
@@ -44,7 +44,7 @@ pub struct Output {
 }
 
 /// What the machine answers to an event.
-#[derive(Debug, Drop)]
+#[derive(Drop)]
 pub enum Answer {
     /// The answer to an open: the new connection.
     Opened(ConnId),
@@ -74,7 +74,7 @@ pub enum OpenError {
 }
 
 /// The answers of a run: one for each step made, and what stopped the run before the last event, if anything did.
-#[derive(Debug, Drop)]
+#[derive(Drop)]
 pub struct Outputs {
     pub answers: Sequence<Answer>,
     pub stopped: Option<Memory>,

@@ -8,7 +8,7 @@ use kapi_text::{Memory, Text, TryCopy};
 use std::alloc::Global;
 
 /// The rule that allows a request, and the binding by which the identity holds it, with names of its own.
-#[derive(Debug, Drop)]
+#[derive(Drop)]
 pub struct SeatGrant {
     pub kind: BindingKind,
     /// The binding's name.
@@ -20,7 +20,7 @@ pub struct SeatGrant {
 }
 
 /// Whether a request is allowed, and by what, with names of its own.
-#[derive(Debug, Drop)]
+#[derive(Drop)]
 pub enum SeatDecision {
     Allowed(SeatGrant),
     /// The identity is of the group `system:masters`, which may do everything (Kubernetes, 'Using RBAC Authorization',

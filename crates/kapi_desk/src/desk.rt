@@ -26,7 +26,7 @@ use std::snapshot::Snapshot;
 use std::sync::Wait;
 
 /// Why a step was not published.
-#[derive(Debug, Drop)]
+#[derive(Drop)]
 pub enum PublishError {
     /// Out of memory: nothing was changed, and the step is handed back.
     Memory(PolicyStep),

@@ -9,7 +9,7 @@ use kapi_text::Memory;
 use std::alloc::Global;
 
 /// Why files of manifests make no engine.
-#[derive(Debug, Drop)]
+#[derive(Drop)]
 pub enum ManifestsFault {
     /// What is wrong with the files, in order, and is never empty.
     Files(Vec<Fault>),

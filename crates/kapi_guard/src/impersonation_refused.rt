@@ -3,15 +3,12 @@ ghost use Rattle.std.specs.Prelude.{◌≡◌};
 use kapi_rules::Point;
 use kapi_text::Sequence;
 use std::alloc::AllocError;
-use thiserror::Error;
 
 /// Why an impersonation is refused.
-#[derive(Debug, Drop, Error)]
+#[derive(Drop)]
 pub enum ImpersonationRefused {
     /// The points that are denied: the one of the user, then the ones of the groups, in their order.
-    #[error("impersonation is denied")]
     Missing(Sequence<Point>),
-    #[error("out of memory")]
     Memory,
 }
 

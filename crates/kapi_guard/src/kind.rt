@@ -7,7 +7,7 @@ use kapi_text::{Memory, TryCopy};
 use std::alloc::Global;
 
 /// The four kinds of policy objects (Kubernetes API, rbac.authorization.k8s.io/v1).
-#[derive(Clone, Copy, Debug, PartialEq, Eq)]
+#[derive(Clone, Copy, PartialEq, Eq)]
 pub enum PolicyKind {
     Role,
     RoleBinding,

@@ -12,7 +12,7 @@ use kapi_text::{Memory, Text, TryCopy};
 use std::alloc::Global;
 
 /// Whether a point is allowed in a namespace, or cluster-wide if the namespace is empty.
-#[derive(Debug, Drop)]
+#[derive(Drop)]
 pub struct Question {
     pub namespace: Text,
     pub point: Point,

@@ -7,7 +7,7 @@ use kapi_policy::NamespacedName;
 use kapi_text::Text;
 
 /// The old version of an object, if there was one, and the new version.
-#[derive(Debug, Drop)]
+#[derive(Drop)]
 pub struct Versions<T> {
     pub old: Option<T>,
     pub new: T,
@@ -15,14 +15,14 @@ pub struct Versions<T> {
 
 /// A create, update or patch of a policy object: the name that its request asks for, which is empty on create, and what
 /// is written.
-#[derive(Debug, Drop)]
+#[derive(Drop)]
 pub struct PolicyWrite {
     pub request_name: Text,
     pub object: WrittenObject,
 }
 
 /// A policy object at its place, in both versions; of a role only the new one counts.
-#[derive(Debug, Drop)]
+#[derive(Drop)]
 pub enum WrittenObject {
     Role(NamespacedName, Role),
     ClusterRole(Text, Versions<ClusterRole>),

@@ -13,7 +13,7 @@ use std::alloc::Global;
 pub const SENT_LIMIT: usize = 1_572_864;
 
 /// The place of the next byte in a body in chunks.
-#[derive(Clone, Copy, Debug, PartialEq, Eq)]
+#[derive(Clone, Copy, PartialEq, Eq)]
 pub enum ChunkState {
     /// In a size line, behind so many digits of the size, or of one above the limit.
     SizeLine(u32, u32),
@@ -38,7 +38,7 @@ pub enum ChunkState {
 }
 
 /// How far a body in chunks was read.
-#[derive(Clone, Copy, Debug, PartialEq, Eq)]
+#[derive(Clone, Copy, PartialEq, Eq)]
 pub struct Chunks {
     pub spot: ChunkState,
     /// How many bytes of the body as sent were read.
@@ -48,7 +48,7 @@ pub struct Chunks {
 }
 
 /// What is known of a body in chunks.
-#[derive(Clone, Copy, Debug, PartialEq, Eq)]
+#[derive(Clone, Copy, PartialEq, Eq)]
 pub enum Ending {
     /// The body is not whole yet.
     Open,

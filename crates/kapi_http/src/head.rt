@@ -10,7 +10,7 @@ use httparse::Status;
 use httparse::spans::{EMPTY_HEADER_SPAN, HeaderSpan, RequestSpans, Span, parse_request};
 
 /// Where the parts of a head stand in its bytes, and the method that it names.
-#[derive(Debug, Drop)]
+#[derive(Drop)]
 pub struct HeadParts {
     pub line: RequestSpans,
     pub method: Method,

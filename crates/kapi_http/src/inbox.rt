@@ -29,7 +29,7 @@ pub enum FeedError {
 }
 
 /// The bytes that were fed and not yet taken out.
-#[derive(Debug, Drop)]
+#[derive(Drop)]
 pub struct Inbox {
     alloc: Global,
     // The bytes before `start` were taken out.

@@ -26,7 +26,7 @@ pub const HEAD_LIMIT: usize = 16384;
 pub const LINE_LIMIT: usize = 64;
 
 /// What is settled of the bytes at hand.
-#[derive(Clone, Copy, Debug, PartialEq, Eq)]
+#[derive(Clone, Copy, PartialEq, Eq)]
 pub enum Decision {
     /// The head is not whole yet.
     Waits,
@@ -39,7 +39,7 @@ pub enum Decision {
 }
 
 /// How far the bytes at hand were read.
-#[derive(Clone, Copy, Debug, PartialEq, Eq)]
+#[derive(Clone, Copy, PartialEq, Eq)]
 pub struct Progress {
     pub scan: Scan,
     pub decision: Decision,

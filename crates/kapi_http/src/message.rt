@@ -5,7 +5,7 @@ ghost use Rattle.kapi_http.specs.Message.{method_text, status_number, status_phr
 use kapi_text::{Sequence, Text};
 
 /// The methods that are served (RFC 9110 section 9.3, RFC 5789).
-#[derive(Clone, Copy, Debug, PartialEq, Eq)]
+#[derive(Clone, Copy, PartialEq, Eq)]
 pub enum Method {
     Get,
     Post,
@@ -30,7 +30,7 @@ impl Method {
 }
 
 /// The status codes that are answered (RFC 9110 section 15, RFC 6585 section 5).
-#[derive(Clone, Copy, Debug, PartialEq, Eq)]
+#[derive(Clone, Copy, PartialEq, Eq)]
 pub enum StatusCode {
     Ok,
     Created,
@@ -104,14 +104,14 @@ impl StatusCode {
 }
 
 /// A header field: its name as sent, its value without white space at both ends.
-#[derive(Debug, Drop)]
+#[derive(Drop)]
 pub struct Header {
     pub name: Text,
     pub value: Sequence<u8>,
 }
 
 /// A whole request.
-#[derive(Debug, Drop)]
+#[derive(Drop)]
 pub struct HttpRequest {
     pub method: Method,
     /// The request target as sent.
@@ -126,7 +126,7 @@ pub struct HttpRequest {
 }
 
 /// Why no request can be read; the connection closes after its reply.
-#[derive(Debug, Drop)]
+#[derive(Drop)]
 pub struct HttpFault {
     pub code: StatusCode,
     /// What is wrong if the code is 400 (`head`, `host`, `length` or `chunk`), the method if it is 405, else
@@ -137,7 +137,7 @@ pub struct HttpFault {
 }
 
 /// Why a request is refused.
-#[derive(Clone, Copy, Debug, PartialEq, Eq)]
+#[derive(Clone, Copy, PartialEq, Eq)]
 pub enum Refusal {
     /// The head or the number of its lines is above the limit.
     HeadTooLarge,
@@ -162,7 +162,7 @@ pub enum Refusal {
 }
 
 /// A reply to be written.
-#[derive(Debug, Drop)]
+#[derive(Drop)]
 pub struct Reply {
     pub code: StatusCode,
     /// The body is plain text, and JSON if this is false.

@@ -13,7 +13,7 @@ use httparse::spans::{HeaderSpan, RequestSpans};
 pub const BODY_LIMIT: usize = 1_048_576;
 
 /// How the end of a body is found.
-#[derive(Clone, Copy, Debug, PartialEq, Eq)]
+#[derive(Clone, Copy, PartialEq, Eq)]
 pub enum Framing {
     /// The body has so many bytes.
     Sized(usize),

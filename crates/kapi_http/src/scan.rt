@@ -4,7 +4,7 @@ ghost use Rattle.std.specs.List.{position_or_len};
 ghost use Rattle.kapi_http.specs.Scan.{is_ended, lines_ended, next_place, scanned};
 
 /// The place of the next byte in a head.
-#[derive(Clone, Copy, Debug, PartialEq, Eq)]
+#[derive(Clone, Copy, PartialEq, Eq)]
 pub enum HeadState {
     /// At the start of a line, before the request line.
     Leading,
@@ -21,7 +21,7 @@ pub enum HeadState {
 }
 
 /// How far a head was read.
-#[derive(Clone, Copy, Debug, PartialEq, Eq)]
+#[derive(Clone, Copy, PartialEq, Eq)]
 pub struct Scan {
     pub place: HeadState,
     /// How many bytes of the head were read.

@@ -4,7 +4,7 @@ use kapi_text::Text;
 use std::fmt;
 
 /// Why what begins at a place of a file is no resource type that can be served.
-#[derive(Debug, Drop)]
+#[derive(Drop)]
 pub enum Reason {
     /// It is no JSON text of an object.
     Piece(kapi_manifests::Reason),
@@ -23,7 +23,7 @@ pub enum Reason {
 }
 
 /// What is wrong with what begins there.
-#[derive(Debug, Drop)]
+#[derive(Drop)]
 pub struct Fault {
     pub origin: Origin,
     pub reason: Reason,

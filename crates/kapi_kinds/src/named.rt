@@ -12,7 +12,7 @@ use std::alloc::Global;
 const REVIEWS_GROUP: &str = "authorization.k8s.io";
 
 /// A resource type by its names.
-#[derive(Clone, Copy, Debug)]
+#[derive(Clone, Copy)]
 pub struct Named<'a> {
     /// The API group, empty for the core group.
     pub group: &'a str,

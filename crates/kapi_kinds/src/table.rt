@@ -18,7 +18,7 @@ use kapi_text::{Memory, Sequence, Text};
 use std::alloc::Global;
 
 /// What files of kinds are.
-#[derive(Debug, Drop)]
+#[derive(Drop)]
 pub enum Kinds {
     /// The resource types of the programs, and behind them those of the files.
     Table(Sequence<ResourceRow>),

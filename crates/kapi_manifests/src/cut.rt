@@ -9,21 +9,21 @@ use kapi_text::Memory;
 use std::alloc::Global;
 
 /// Where a piece begins: the number of its line, from 1, and of its first byte, from 0.
-#[derive(Clone, Copy, Debug, PartialEq, Eq)]
+#[derive(Clone, Copy, PartialEq, Eq)]
 pub struct Start {
     pub line: usize,
     pub at: usize,
 }
 
 /// A piece of a text: where it begins, and the number of the byte behind it.
-#[derive(Clone, Copy, Debug, PartialEq, Eq)]
+#[derive(Clone, Copy, PartialEq, Eq)]
 pub struct Span {
     pub start: Start,
     pub stop: usize,
 }
 
 /// A reader of a text: its place, the number of its line and of its next byte, and where the last piece began.
-#[derive(Clone, Copy, Debug, PartialEq, Eq)]
+#[derive(Clone, Copy, PartialEq, Eq)]
 pub struct Cursor {
     pub place: ReaderState,
     pub here: Start,

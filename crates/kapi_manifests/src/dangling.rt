@@ -13,7 +13,7 @@ use std::alloc::Global;
 use std::collections::BTreeMap;
 
 /// A binding whose role is not in the policy: where it begins, its kind and place, and the kind and name of the role.
-#[derive(Debug, Drop)]
+#[derive(Drop)]
 pub struct Dangling {
     pub origin: Origin,
     pub binding: String,

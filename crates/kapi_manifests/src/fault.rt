@@ -3,14 +3,14 @@ use kapi_text::Text;
 use std::fmt;
 
 /// Where an object begins: the number of its file, from 0, and of its line there, from 1.
-#[derive(Clone, Copy, Debug, PartialEq, Eq)]
+#[derive(Clone, Copy, PartialEq, Eq)]
 pub struct Origin {
     pub file: usize,
     pub line: usize,
 }
 
 /// Why what begins at a place of a file is no object that can be loaded.
-#[derive(Debug, Drop)]
+#[derive(Drop)]
 pub enum Reason {
     /// The file begins like YAML.
     Yaml,
@@ -27,7 +27,7 @@ pub enum Reason {
 }
 
 /// What is wrong with what begins there.
-#[derive(Debug, Drop)]
+#[derive(Drop)]
 pub struct Fault {
     pub origin: Origin,
     pub reason: Reason,

@@ -97,7 +97,7 @@ fn array_of(alloc: Global, value: Value) -> Vec<Value>
 }
 
 /// A reader of the text of a list: its place and the number of its line, and how many brackets are open.
-#[derive(Clone, Copy, Debug, PartialEq, Eq)]
+#[derive(Clone, Copy, PartialEq, Eq)]
 struct ListCursor {
     place: ReaderState,
     line: usize,

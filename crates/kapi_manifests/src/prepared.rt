@@ -23,7 +23,7 @@ use std::alloc::Global;
 use std::collections::BTreeMap;
 
 /// What files of manifests are to the machine that loads them.
-#[derive(Debug, Drop)]
+#[derive(Drop)]
 pub struct Prepared {
     /// The objects, a JSON text a line: namespaces first, those of the files and then the made ones.
     pub text: Vec<u8>,
@@ -189,7 +189,7 @@ fn write_lines(
 }
 
 /// Objects, each in a line of its own, and where each begins.
-#[derive(Debug, Drop)]
+#[derive(Drop)]
 pub struct Lines {
     pub text: Vec<u8>,
     pub origins: Vec<Origin>,

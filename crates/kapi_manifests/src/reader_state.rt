@@ -5,7 +5,7 @@ ghost use Rattle.kapi_manifests.specs.Places.{behind, closed as closed_of, depth
 ghost use Rattle.kapi_manifests.specs.declared.reader_state.ReaderState.TheVariants.{Between, Inside, Quoted, Escaped};
 
 /// Where a reader of a file stands.
-#[derive(Clone, Copy, Debug, PartialEq, Eq)]
+#[derive(Clone, Copy, PartialEq, Eq)]
 pub enum ReaderState {
     /// Outside of all objects.
     Between,

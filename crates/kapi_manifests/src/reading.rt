@@ -17,7 +17,7 @@ use std::alloc::{AllocError, Global};
 const SHOWN: usize = 20;
 
 /// The objects of a file, and what is wrong with its pieces.
-#[derive(Debug, Drop)]
+#[derive(Drop)]
 pub struct Objects {
     pub objects: Vec<Manifest>,
     pub faults: Vec<Fault>,

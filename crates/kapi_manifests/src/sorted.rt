@@ -13,7 +13,7 @@ use std::alloc::Global;
 use std::collections::BTreeMap;
 
 /// Which objects are loaded.
-#[derive(Clone, Copy, Debug, PartialEq, Eq)]
+#[derive(Clone, Copy, PartialEq, Eq)]
 pub enum Scope {
     /// Namespaces, and what says something about policy; the others are counted.
     Policy,
@@ -22,7 +22,7 @@ pub enum Scope {
 }
 
 /// How files are read.
-#[derive(Clone, Copy, Debug)]
+#[derive(Clone, Copy)]
 pub struct Options<'a> {
     pub scope: Scope,
     /// The namespace of objects that name none and live in one; empty if none is given.
@@ -34,7 +34,7 @@ pub struct Options<'a> {
 }
 
 /// An object, and where it begins.
-#[derive(Debug, Drop)]
+#[derive(Drop)]
 pub struct Manifest {
     pub origin: Origin,
     pub object: Value,
@@ -48,7 +48,7 @@ pub enum Found {
 }
 
 /// The objects of files.
-#[derive(Debug, Drop)]
+#[derive(Drop)]
 pub struct Sorted {
     pub namespaces: Vec<Manifest>,
     /// The objects that are loaded and are no namespaces.
@@ -59,7 +59,7 @@ pub struct Sorted {
 }
 
 /// What an object is to the machine that loads the files.
-#[derive(Clone, Copy, Debug, PartialEq, Eq)]
+#[derive(Clone, Copy, PartialEq, Eq)]
 pub enum Sort {
     /// It has no kind.
     Nameless,

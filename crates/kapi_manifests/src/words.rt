@@ -17,7 +17,7 @@ use std::collections::BTreeMap;
 
 /// Words of objects, each behind what it is, as `verb get`, `resource pods`, `namespace shop` and `User ann`, and where
 /// the first object that names it begins.
-#[derive(Debug, Drop)]
+#[derive(Drop)]
 pub struct Words {
     pub named: BTreeMap<Text, Origin>,
 }

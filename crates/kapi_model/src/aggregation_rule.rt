@@ -4,7 +4,7 @@ use std::alloc::{AllocError, Global};
 
 /// Selects the cluster roles that an aggregated one takes its rules from: those that one of the selectors matches
 /// (Kubernetes API, `AggregationRule` of rbac.authorization.k8s.io/v1).
-#[derive(Debug, Drop)]
+#[derive(Drop)]
 pub struct AggregationRule {
     pub cluster_role_selectors: Sequence<Selector>,
 }

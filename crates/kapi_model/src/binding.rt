@@ -5,7 +5,7 @@ use std::alloc::{AllocError, Global};
 
 /// Grants the subjects what a role allows, in the binding's namespace (Kubernetes API, `RoleBinding` of
 /// rbac.authorization.k8s.io/v1).
-#[derive(Debug, Drop)]
+#[derive(Drop)]
 pub struct RoleBinding {
     pub subjects: Sequence<Subject>,
     pub role_ref: RoleRef,
@@ -13,7 +13,7 @@ pub struct RoleBinding {
 
 /// Grants the subjects what a cluster role allows, cluster-wide (Kubernetes API, `ClusterRoleBinding` of
 /// rbac.authorization.k8s.io/v1).
-#[derive(Debug, Drop)]
+#[derive(Drop)]
 pub struct ClusterRoleBinding {
     pub subjects: Sequence<Subject>,
     pub role_ref: RoleRef,

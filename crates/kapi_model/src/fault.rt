@@ -4,7 +4,7 @@ use kapi_text::{Text, TryCopy};
 use std::alloc::{AllocError, Global};
 
 /// What is wrong with a member of an object.
-#[derive(Clone, Copy, Debug, PartialEq, Eq)]
+#[derive(Clone, Copy, PartialEq, Eq)]
 pub enum FaultKind {
     /// The member is absent, or empty, if it must not be.
     Required,
@@ -33,7 +33,7 @@ impl FaultKind {
 }
 
 /// A fault of an object: the member at fault, as in `metadata.labels`, and the cause.
-#[derive(Debug, Drop)]
+#[derive(Drop)]
 pub struct FieldFault {
     pub field: Text,
     pub cause: FaultKind,

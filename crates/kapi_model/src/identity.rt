@@ -2,7 +2,7 @@ use kapi_text::{Sequence, Text, TryCopy};
 use std::alloc::{AllocError, Global};
 
 /// The identity that makes requests: a user and the user's groups (Kubernetes, 'Authenticating').
-#[derive(Debug, Drop)]
+#[derive(Drop)]
 pub struct Identity {
     pub user: Text,
     pub groups: Sequence<Text>,

@@ -4,14 +4,14 @@ ghost use Rattle.std.specs.Prelude.{◌≡◌};
 pub const RBAC_GROUP: &str = "rbac.authorization.k8s.io";
 
 /// The two kinds of roles (Kubernetes, 'Using RBAC Authorization', 'Role and ClusterRole').
-#[derive(Clone, Copy, Debug, PartialEq, Eq)]
+#[derive(Clone, Copy, PartialEq, Eq)]
 pub enum RoleKind {
     Role,
     ClusterRole,
 }
 
 /// The three kinds of subjects (Kubernetes, 'Using RBAC Authorization', 'Referring to subjects').
-#[derive(Clone, Copy, Debug, PartialEq, Eq)]
+#[derive(Clone, Copy, PartialEq, Eq)]
 pub enum SubjectKind {
     User,
     Group,

@@ -2,7 +2,7 @@ use kapi_text::{Sequence, Text, TryCopy};
 use std::alloc::{AllocError, Global};
 
 /// A rule of a role: what it allows, entry by entry (Kubernetes API, `PolicyRule` of rbac.authorization.k8s.io/v1).
-#[derive(Debug, Drop)]
+#[derive(Drop)]
 pub struct PolicyRule {
     pub verbs: Sequence<Text>,
     pub api_groups: Sequence<Text>,

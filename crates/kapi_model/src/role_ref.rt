@@ -3,7 +3,7 @@ use kapi_text::{Text, TryCopy};
 use std::alloc::{AllocError, Global};
 
 /// The role that a binding refers to (Kubernetes API, `RoleRef` of rbac.authorization.k8s.io/v1).
-#[derive(Debug, Drop)]
+#[derive(Drop)]
 pub struct RoleRef {
     pub kind: RoleKind,
     pub name: Text,

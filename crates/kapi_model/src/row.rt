@@ -2,7 +2,7 @@ use kapi_text::{Text, TryCopy};
 use std::alloc::{AllocError, Global};
 
 /// What the body of an object of a resource type must be.
-#[derive(Clone, Copy, Debug, PartialEq, Eq)]
+#[derive(Clone, Copy, PartialEq, Eq)]
 pub enum Schema {
     /// Any members beside the metadata.
     Open,
@@ -14,7 +14,7 @@ pub enum Schema {
 }
 
 /// A resource type that is served, as a line of Kubernetes' `kubectl api-resources`.
-#[derive(Debug, Drop)]
+#[derive(Drop)]
 pub struct ResourceRow {
     /// The API group, empty for the core group.
     pub group: Text,

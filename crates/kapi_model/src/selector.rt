@@ -9,7 +9,7 @@ use kapi_text::{Sequence, Text, TryCopy};
 use std::alloc::{AllocError, Global};
 
 /// How a requirement tests the label of its key (Kubernetes, 'Labels and Selectors').
-#[derive(Clone, Copy, Debug, PartialEq, Eq)]
+#[derive(Clone, Copy, PartialEq, Eq)]
 pub enum Operator {
     /// The label is there, and its value is listed.
     In,
@@ -52,7 +52,7 @@ impl Operator {
 }
 
 /// A requirement on labels (Kubernetes API, `LabelSelectorRequirement` of meta/v1).
-#[derive(Debug, Drop)]
+#[derive(Drop)]
 pub struct Requirement {
     pub key: Text,
     pub operator: Operator,
@@ -60,7 +60,7 @@ pub struct Requirement {
 }
 
 /// A label: its key and its value.
-#[derive(Debug, Drop)]
+#[derive(Drop)]
 pub struct Label {
     pub key: Text,
     pub value: Text,
@@ -68,7 +68,7 @@ pub struct Label {
 
 /// A selector of labels: it matches those that have each label listed and meet each requirement (Kubernetes API,
 /// `LabelSelector` of meta/v1). A selector without any matches everything.
-#[derive(Debug, Drop)]
+#[derive(Drop)]
 pub struct Selector {
     /// The labels in the order of their keys, by bytes, where they were read of an object.
     pub match_labels: Sequence<Label>,

@@ -3,7 +3,7 @@ ghost use Rattle.std.specs.Prelude.{◌≡◌};
 use std::marker::Model;
 
 /// A word of a selector's text, borrowed from it; contracts see its bytes.
-#[derive(Debug, Drop)]
+#[derive(Drop)]
 pub struct Word<'a> {
     text: &'a str,
 }
@@ -31,7 +31,7 @@ impl<'a> Word<'a> {
 }
 
 /// A token of a selector's text.
-#[derive(Debug, Drop)]
+#[derive(Drop)]
 pub enum Token<'a> {
     /// A run of bytes that are none of the signs below and no space.
     Word(Word<'a>),

@@ -2,7 +2,7 @@ use kapi_text::{Text, TryCopy};
 use std::alloc::{AllocError, Global};
 
 /// A service account; its namespace is empty if none is given.
-#[derive(Debug, Drop)]
+#[derive(Drop)]
 pub struct ServiceAccount {
     pub namespace: Text,
     pub name: Text,
@@ -10,7 +10,7 @@ pub struct ServiceAccount {
 
 /// A user, a group or a service account that a binding grants a role (Kubernetes API, `Subject` of
 /// rbac.authorization.k8s.io/v1).
-#[derive(Debug, Drop)]
+#[derive(Drop)]
 pub enum Subject {
     User(Text),
     Group(Text),

@@ -9,7 +9,7 @@ use serde_json::Value;
 use std::alloc::{AllocError, Global};
 
 /// The value of a member if a text is expected.
-#[derive(Debug, Drop)]
+#[derive(Drop)]
 pub enum GivenText {
     /// No value, or null.
     Absent,
@@ -29,7 +29,7 @@ impl TryCopy for GivenText {
 }
 
 /// What an object's metadata specifies as its name, its namespace and its resource version.
-#[derive(Debug, Drop)]
+#[derive(Drop)]
 pub struct Given {
     pub name: GivenText,
     /// The namespace; absent for resource types without namespaces.

@@ -13,7 +13,7 @@ use serde_json::{Map, Value};
 use std::alloc::Global;
 
 /// The two sorts of entries that metadata has.
-#[derive(Clone, Copy, Debug, PartialEq, Eq)]
+#[derive(Clone, Copy, PartialEq, Eq)]
 pub enum Entries {
     Labels,
     Annotations,

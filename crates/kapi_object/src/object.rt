@@ -13,7 +13,7 @@ use std::alloc::Global;
 
 /// A declared object: a JSON tree (RFC 8259) whose numbers are integers. The members of each JSON object are in the
 /// order of their keys. It nests no deeper than a text that is read as JSON.
-#[derive(Debug, Drop)]
+#[derive(Drop)]
 pub struct Object {
     tree: Value,
     ghost whole: { has_float (view tree) ≡ false },

@@ -4,25 +4,18 @@ use crate::given::Given;
 use kapi_model::FieldFault;
 use kapi_text::Sequence;
 use std::alloc::AllocError;
-use thiserror::Error;
 
 /// Why a body is no object of its resource type: the first of these that holds.
-#[derive(Debug, Drop, Error)]
+#[derive(Drop)]
 pub enum ObjectError {
     /// The bytes are no JSON object (RFC 8259).
-    #[error("the body is no JSON object")]
     NotJson,
     /// A number in the body reads as a float.
-    #[error("the body has a float")]
     Float,
-    #[error("the body has another kind")]
     WrongKind,
-    #[error("the body has another apiVersion")]
     WrongVersion,
     /// Members of the body are at fault: what the body specifies all the same, and each fault in order.
-    #[error("the body is invalid")]
     Invalid(Given, Sequence<FieldFault>),
-    #[error("out of memory")]
     Memory,
 }
 

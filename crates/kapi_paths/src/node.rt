@@ -5,7 +5,7 @@ use kapi_text::{Memory, Text, TryCopy};
 use std::alloc::{AllocError, Global};
 
 /// What a node is.
-#[derive(Clone, Copy, Debug, PartialEq, Eq, PartialOrd, Ord)]
+#[derive(Clone, Copy, PartialEq, Eq, PartialOrd, Ord)]
 pub enum NodeKind {
     Everything,
     /// Each user that a binding names.
@@ -26,7 +26,7 @@ pub enum NodeKind {
 }
 
 /// Whom a subject of a binding can become: a user, group, account, role, or many at once. Its place is a namespace, or empty.
-#[derive(Debug, PartialEq, Eq, PartialOrd, Ord, Drop)]
+#[derive(PartialEq, Eq, PartialOrd, Ord, Drop)]
 pub struct Node {
     pub kind: NodeKind,
     pub place: Text,

@@ -9,7 +9,7 @@ use kapi_text::{Memory, Text};
 use std::alloc::Global;
 
 /// For which names the right is asked.
-#[derive(Clone, Copy, Debug, PartialEq, Eq)]
+#[derive(Clone, Copy, PartialEq, Eq)]
 pub enum Names {
     /// For an object without a name, or whatever its name.
     Unnamed,
@@ -20,7 +20,7 @@ pub enum Names {
 }
 
 /// Whom the right leads to.
-#[derive(Clone, Copy, Debug, PartialEq, Eq)]
+#[derive(Clone, Copy, PartialEq, Eq)]
 pub enum Leads {
     /// Everything, cluster-wide alone.
     Everything,

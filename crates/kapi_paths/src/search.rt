@@ -11,7 +11,7 @@ use std::marker::Model;
 use std::mem;
 
 /// How a node is found: after so many steps, the last of them from that node.
-#[derive(Clone, Copy, Debug)]
+#[derive(Clone, Copy)]
 pub struct Found {
     pub steps: usize,
     pub from: usize,

@@ -5,7 +5,7 @@ use kapi_text::{Text, TryCopy};
 use std::alloc::{AllocError, Global};
 
 /// The place of an object that lives in a namespace. Places are in order of namespace and name, each by its bytes.
-#[derive(Debug, PartialEq, Eq, PartialOrd, Ord, Drop)]
+#[derive(PartialEq, Eq, PartialOrd, Ord, Drop)]
 pub struct NamespacedName {
     pub namespace: Text,
     pub name: Text,
@@ -13,7 +13,7 @@ pub struct NamespacedName {
 
 /// A policy object at its place: a role or role binding in a namespace, or a cluster role or cluster role binding of a
 /// name.
-#[derive(Debug, Drop)]
+#[derive(Drop)]
 pub enum PolicyPut {
     Role(NamespacedName, Role),
     ClusterRole(Text, ClusterRole),
@@ -22,7 +22,7 @@ pub enum PolicyPut {
 }
 
 /// The place of a policy object.
-#[derive(Debug, Drop)]
+#[derive(Drop)]
 pub enum PolicyKey {
     Role(NamespacedName),
     ClusterRole(Text),
@@ -31,7 +31,7 @@ pub enum PolicyKey {
 }
 
 /// One change of the policy objects.
-#[derive(Debug, Drop)]
+#[derive(Drop)]
 pub enum PolicyChange {
     /// Puts the object at its place, also if there is one.
     Put(PolicyPut),

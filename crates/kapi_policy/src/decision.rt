@@ -2,14 +2,14 @@ use kapi_model::RoleRef;
 
 /// The two kinds of bindings: in a namespace, and cluster-wide (Kubernetes, 'Using RBAC Authorization', 'RoleBinding
 /// and ClusterRoleBinding').
-#[derive(Clone, Copy, Debug, PartialEq, Eq)]
+#[derive(Clone, Copy, PartialEq, Eq)]
 pub enum BindingKind {
     RoleBinding,
     ClusterRoleBinding,
 }
 
 /// The rule that allows a request, and the binding by which the identity holds it.
-#[derive(Debug, Drop)]
+#[derive(Drop)]
 pub struct Grant<'a> {
     pub kind: BindingKind,
     /// The binding's name.
@@ -21,7 +21,7 @@ pub struct Grant<'a> {
 }
 
 /// Whether a request is allowed, and by what.
-#[derive(Debug, Drop)]
+#[derive(Drop)]
 pub enum Decision<'a> {
     Allowed(Grant<'a>),
     /// The identity is of the group `system:masters`, which may do everything (Kubernetes, 'Using RBAC Authorization',

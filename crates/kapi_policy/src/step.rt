@@ -10,7 +10,7 @@ use std::marker::Model;
 
 /// What one write changes in a policy: nothing, one object put or deleted, or several deleted.
 /// Contracts see the list of changes.
-#[derive(Debug, Drop)]
+#[derive(Drop)]
 pub struct PolicyStep {
     changes: Sequence<PolicyChange>,
 }

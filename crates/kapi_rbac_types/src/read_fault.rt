@@ -7,15 +7,12 @@ use kapi_model::{FieldFault, Schema};
 use kapi_object::{Object, collect_faults};
 use kapi_text::Sequence;
 use std::alloc::{AllocError, Global};
-use thiserror::Error;
 
 /// Why an object is not read as a role or a binding.
-#[derive(Debug, Drop, Error)]
+#[derive(Drop)]
 pub enum ReadFault {
     /// Members of the object are at fault: each fault in order.
-    #[error("the object is invalid")]
     Invalid(Sequence<FieldFault>),
-    #[error("out of memory")]
     Memory,
 }
 

@@ -59,7 +59,7 @@ fn first_reason(
 }
 
 /// A line of a file of objects that is not loaded, by its number from 1, and why.
-#[derive(Debug, Drop)]
+#[derive(Drop)]
 pub struct LineReason {
     pub number: usize,
     pub reason: String,

@@ -30,7 +30,7 @@ pub enum Failure {
 }
 
 /// What a line of a transcript wants of an answer, by the number of the line.
-#[derive(Clone, Copy, Debug, PartialEq, Eq)]
+#[derive(Clone, Copy, PartialEq, Eq)]
 pub struct Check {
     pub number: usize,
     /// The case of the line was played, and the answer compared.

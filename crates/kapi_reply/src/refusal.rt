@@ -2,10 +2,9 @@ use kapi_http::Method;
 use kapi_model::FieldFault;
 use kapi_rules::{Atom, Point};
 use kapi_text::{Memory, Sequence, Text};
-use thiserror::Error;
 
 /// The kind of place that a path of a served resource names.
-#[derive(Clone, Copy, Debug, PartialEq, Eq)]
+#[derive(Clone, Copy, PartialEq, Eq)]
 pub enum Place {
     /// The objects of one namespace, or of a cluster-scoped resource.
     Collection,
@@ -24,7 +23,7 @@ pub enum Place {
 }
 
 /// What is bad in a bad request (400).
-#[derive(Clone, Copy, Debug, PartialEq, Eq)]
+#[derive(Clone, Copy, PartialEq, Eq)]
 pub enum BadRequestReason {
     Target,
     Escape,
@@ -43,7 +42,7 @@ pub enum BadRequestReason {
 }
 
 /// What was not found (404).
-#[derive(Clone, Copy, Debug, PartialEq, Eq)]
+#[derive(Clone, Copy, PartialEq, Eq)]
 pub enum Sought {
     /// The object that the request is about.
     Object,
@@ -52,7 +51,7 @@ pub enum Sought {
 }
 
 /// Why a request is refused. The first check that fails decides.
-#[derive(Debug, Drop)]
+#[derive(Drop)]
 pub enum Refusal {
     BadRequest(BadRequestReason),
     /// The caller may not impersonate: these points are denied, that of the user first, then those of the groups.
@@ -86,28 +85,28 @@ pub enum Refusal {
 }
 
 /// A role by its resource and its name.
-#[derive(Debug, Drop)]
+#[derive(Drop)]
 pub struct NamedRole {
     pub resource: Text,
     pub name: Text,
 }
 
 /// A revision that was asked for, and the current one.
-#[derive(Clone, Copy, Debug, PartialEq, Eq)]
+#[derive(Clone, Copy, PartialEq, Eq)]
 pub struct Revisions {
     pub asked: u64,
     pub current: u64,
 }
 
 /// A revision that was asked for, and the revision at which the window of the kept changes begins.
-#[derive(Clone, Copy, Debug, PartialEq, Eq)]
+#[derive(Clone, Copy, PartialEq, Eq)]
 pub struct OldRevision {
     pub asked: u64,
     pub begins: u64,
 }
 
 /// A refused request: the name of the object it is about, if that is not the name in its path, and the reason.
-#[derive(Debug, Drop)]
+#[derive(Drop)]
 pub struct Refused {
     pub name: Option<Text>,
     pub why: Refusal,
@@ -181,11 +180,9 @@ impl BadRequestReason {
 }
 
 /// A check that refused the request or ran out of memory.
-#[derive(Debug, Drop, Error)]
+#[derive(Drop)]
 pub enum CheckError {
-    #[error("the request is refused")]
     Refused(Refused),
-    #[error("out of memory")]
     Memory,
 }
 

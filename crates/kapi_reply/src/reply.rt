@@ -22,7 +22,7 @@ use std::alloc::Global;
 const STATUS_ROOM: usize = 512;
 
 /// The bytes of a reply on a connection.
-#[derive(Debug, Drop)]
+#[derive(Drop)]
 pub struct WrittenReply {
     pub bytes: Sequence<u8>,
     /// The connection has ended with these bytes.
@@ -30,7 +30,7 @@ pub struct WrittenReply {
 }
 
 /// The kind of a reply's body.
-#[derive(Clone, Copy, Debug, PartialEq, Eq)]
+#[derive(Clone, Copy, PartialEq, Eq)]
 pub enum Content {
     /// An object as JSON text.
     Json,

@@ -14,7 +14,7 @@ use std::alloc::{AllocError, AllocFailed, Global};
 use thiserror::Error;
 
 /// The attributes of a request, from its method and target (Kubernetes, 'Authorization Overview', request attributes).
-#[derive(Debug, Drop)]
+#[derive(Drop)]
 pub struct Attributes {
     /// The namespace, empty if the request is about none.
     pub namespace: Text,

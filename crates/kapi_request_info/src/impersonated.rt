@@ -3,7 +3,7 @@ use std::alloc::AllocFailed;
 use thiserror::Error;
 
 /// The identity that a request asks to act as (Kubernetes, 'Authenticating', 'User impersonation').
-#[derive(Debug, Drop)]
+#[derive(Drop)]
 pub struct Impersonation {
     pub user: Text,
     /// The groups in the order in which they are named; there may be none.

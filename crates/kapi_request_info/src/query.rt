@@ -7,7 +7,7 @@ use kapi_text::{Memory, Sequence, Text, TryCopy};
 use std::alloc::{AllocError, Global};
 
 /// A key of a query and its value, both decoded; the value is empty if there is no `=`.
-#[derive(Debug, Drop)]
+#[derive(Drop)]
 pub struct QueryPair {
     pub key: Text,
     pub value: Text,

@@ -1,5 +1,5 @@
 /// The four kinds of reviews.
-#[derive(Clone, Copy, Debug, PartialEq, Eq)]
+#[derive(Clone, Copy, PartialEq, Eq)]
 pub enum ReviewKind {
     /// Asks whether the caller may do something.
     SelfSubjectAccessReview,

@@ -16,7 +16,7 @@ use serde_json::Value;
 use std::alloc::Global;
 
 /// Whether an identity may do something in a namespace, or cluster-wide if the namespace is empty.
-#[derive(Debug, Drop)]
+#[derive(Drop)]
 pub struct Question {
     pub identity: Identity,
     pub namespace: Text,

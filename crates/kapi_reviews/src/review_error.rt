@@ -3,15 +3,12 @@ ghost use Rattle.std.specs.Prelude.{◌≡◌};
 use kapi_model::FieldFault;
 use kapi_text::Sequence;
 use std::alloc::AllocError;
-use thiserror::Error;
 
 /// Why a review is not answered.
-#[derive(Debug, Drop, Error)]
+#[derive(Drop)]
 pub enum ReviewError {
     /// Members of the review are at fault: each fault in order.
-    #[error("the review is invalid")]
     Invalid(Sequence<FieldFault>),
-    #[error("out of memory")]
     Memory,
 }
 

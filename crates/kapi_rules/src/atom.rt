@@ -9,14 +9,14 @@ use std::alloc::{AllocError, Global};
 
 /// The smallest part of a rule: one entry of each list, taken literally, so that the verb `*` is an entry and not all
 /// verbs.
-#[derive(Debug, Drop)]
+#[derive(Drop)]
 pub enum Atom {
     Resource(ResourceAtom),
     Url(UrlAtom),
 }
 
 /// One verb on one resource of one group, with all names or one.
-#[derive(Debug, Drop)]
+#[derive(Drop)]
 pub struct ResourceAtom {
     pub verb: Text,
     pub group: Text,
@@ -25,7 +25,7 @@ pub struct ResourceAtom {
 }
 
 /// The names of an atom.
-#[derive(Debug, Drop)]
+#[derive(Drop)]
 pub enum Names {
     /// The names of a rule that lists no names.
     All,
@@ -33,7 +33,7 @@ pub enum Names {
 }
 
 /// One verb on one URL.
-#[derive(Debug, Drop)]
+#[derive(Drop)]
 pub struct UrlAtom {
     pub verb: Text,
     pub url: Text,

@@ -2,14 +2,14 @@ use kapi_text::{Text, TryCopy};
 use std::alloc::{AllocError, Global};
 
 /// What a request asks to do (Kubernetes, 'Authorization Overview', request attributes).
-#[derive(Debug, Drop)]
+#[derive(Drop)]
 pub enum Point {
     Resource(ResourcePoint),
     Url(UrlPoint),
 }
 
 /// A verb on a resource. The group is empty for the core group, the subresource and the name if there is none.
-#[derive(Debug, Drop)]
+#[derive(Drop)]
 pub struct ResourcePoint {
     pub verb: Text,
     pub group: Text,
@@ -19,7 +19,7 @@ pub struct ResourcePoint {
 }
 
 /// A verb on a path that names no resource.
-#[derive(Debug, Drop)]
+#[derive(Drop)]
 pub struct UrlPoint {
     pub verb: Text,
     pub path: Text,

@@ -27,7 +27,7 @@ use kapi_policy::Policy;
 use std::sync::Wait;
 
 /// The state of a connection.
-#[derive(Clone, Copy, Debug, PartialEq, Eq)]
+#[derive(Clone, Copy, PartialEq, Eq)]
 pub(crate) enum Phase {
     /// The client's bytes are read and served.
     Open,
@@ -38,7 +38,7 @@ pub(crate) enum Phase {
 }
 
 /// The result of writing.
-#[derive(Clone, Copy, Debug, PartialEq, Eq)]
+#[derive(Clone, Copy, PartialEq, Eq)]
 pub(crate) enum Flushed {
     /// No bytes were accepted.
     Nothing,

@@ -82,7 +82,7 @@ pub(crate) struct Clients {
 }
 
 /// The result of a read.
-#[derive(Clone, Copy, Debug, PartialEq, Eq)]
+#[derive(Clone, Copy, PartialEq, Eq)]
 pub(crate) enum Pulled {
     /// Bytes were fed to the machine.
     Fed,

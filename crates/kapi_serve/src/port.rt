@@ -7,7 +7,7 @@ use kapi_model::Identity;
 use kapi_text::Sequence;
 
 /// The events of ports. A slot is the number of a connection among them, free again once it is ended.
-#[derive(Debug, Drop)]
+#[derive(Drop)]
 pub enum PortEvent {
     /// A client has connected on this slot, under this identity.
     Opened(usize, Identity),
@@ -20,7 +20,7 @@ pub enum PortEvent {
 }
 
 /// Why a slot read or wrote nothing.
-#[derive(Clone, Copy, Debug, PartialEq, Eq)]
+#[derive(Clone, Copy, PartialEq, Eq)]
 pub enum PortFault {
     /// There is nothing now, and an event reports when there may be.
     WouldBlock,
@@ -29,7 +29,7 @@ pub enum PortFault {
 }
 
 /// What a call on ports read or wrote. Ports that report their history keep it.
-#[derive(Debug, Drop)]
+#[derive(Drop)]
 pub enum Entry {
     /// A client has connected.
     Opened(usize, Identity),

@@ -13,7 +13,7 @@ use std::marker::Model;
 use std::rc::Rc;
 
 /// An object with several owners: the map, the changes and their readers.
-#[derive(Debug, Drop)]
+#[derive(Drop)]
 pub struct Shared {
     owner: Rc<StoredObject>,
 }
@@ -60,7 +60,7 @@ impl Shared {
 }
 
 /// One change of one object.
-#[derive(Debug, Drop)]
+#[derive(Drop)]
 pub struct Change {
     /// The revision that the change took.
     pub revision: u64,

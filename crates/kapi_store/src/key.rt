@@ -6,7 +6,7 @@ use std::alloc::{AllocError, Global};
 use std::cmp::Ordering;
 
 /// The place of an object. Keys are in order of group, resource, namespace and name, each by its bytes.
-#[derive(Debug, PartialEq, Eq, Drop)]
+#[derive(PartialEq, Eq, Drop)]
 pub struct Key {
     /// The API group, empty for the core group.
     pub group: Text,

@@ -17,7 +17,7 @@ use std::alloc::Global;
 use std::collections::BTreeMap;
 
 /// An object of a list, with its key.
-#[derive(Debug, Drop)]
+#[derive(Drop)]
 pub struct Listed<'a> {
     pub key: &'a Key,
     pub object: &'a Shared,

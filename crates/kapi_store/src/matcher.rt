@@ -15,7 +15,7 @@ use std::alloc::Global;
 use std::collections::{BTreeMap, BTreeSet};
 
 /// Which values the requirements on one key let pass: of the noted ones those that are noted so, of the others all or none.
-#[derive(Debug, Drop)]
+#[derive(Drop)]
 pub(crate) struct Checks {
     noted: BTreeMap<Text, bool>,
     others: bool,
@@ -165,7 +165,7 @@ fn presence(alloc: Global, keys: &BTreeSet<Text>) -> Result<Vec<Requirement>, Me
 
 /// A selector in the form in which labels are looked up in it: the labels meet all requirements if each key that one of
 /// them needs is there, and the value of each label passes.
-#[derive(Debug, Drop)]
+#[derive(Drop)]
 pub struct Matcher {
     /// The labels and the keys that must be there. Each key stands once, and the first that is lacking ends the walk, so
     /// it takes at most one step more than an object has labels.

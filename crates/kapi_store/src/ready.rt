@@ -11,7 +11,7 @@ use std::marker::Model;
 /// A prepared write: the changes that `Store::commit` will make, with all their memory.
 ///
 /// Dropping it changes nothing visible. A creation leaves a hidden slot then, which the next creation takes out.
-#[derive(Debug, Drop)]
+#[derive(Drop)]
 pub struct Ready {
     list: Vec<Change>,
     /// The map's share of the first change's new object; no other change has a new object.

@@ -14,7 +14,7 @@ use std::collections::BTreeMap;
 use std::marker::Model;
 
 /// The resource types in their order, with the position of the first of each name.
-#[derive(Debug, Drop)]
+#[derive(Drop)]
 pub(crate) struct Rows {
     list: Sequence<ResourceRow>,
     first: BTreeMap<Text, usize>,

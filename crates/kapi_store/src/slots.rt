@@ -18,7 +18,7 @@ use std::collections::BTreeMap;
 
 /// The slot of an object that is still to be created. The object is known here besides, so that the write which creates
 /// it need not look into the slot.
-#[derive(Debug, Drop)]
+#[derive(Drop)]
 pub struct Hidden {
     pub key: Key,
     pub object: Shared,

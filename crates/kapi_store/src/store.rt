@@ -20,7 +20,6 @@ use std::marker::Model;
 pub const LAST_REVISION: u64 = 281_474_976_710_655;
 
 /// The objects by their keys, one revision counter over all writes, and the last changes.
-#[derive(Debug)]
 pub struct Store {
     alloc: Global,
     table: Rows,

@@ -21,7 +21,7 @@ use std::alloc::{AllocError, Global};
 /// A declared object as it is kept: its JSON text, compact, with keys in the order of their bytes (RFC 8259). What is
 /// asked for often stands beside it, so the text need not be read for it: labels with text values, the rule by which a
 /// cluster role takes rules from others, and the revisions of the object's creation and last write.
-#[derive(Debug, Drop)]
+#[derive(Drop)]
 pub struct StoredObject {
     text: Text,
     labels: Sequence<Label>,

@@ -10,7 +10,7 @@ use std::marker::Model;
 pub const WINDOW: usize = 1_024;
 
 /// The last changes, at most `WINDOW` of them and no others, the oldest first.
-#[derive(Debug, Drop)]
+#[derive(Drop)]
 pub(crate) struct Window {
     ring: HeapCircularBuffer<Change>,
 }
@@ -79,7 +79,7 @@ impl Window {
 }
 
 /// Some of the last changes of a store, borrowed, the oldest first.
-#[derive(Clone, Copy, Debug)]
+#[derive(Clone, Copy)]
 pub struct Changes<'a> {
     window: &'a Window,
     skipped: usize,

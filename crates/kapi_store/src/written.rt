@@ -7,7 +7,7 @@ use kapi_text::Memory;
 use std::alloc::Global;
 
 /// An object as a write leaves it, as a tree and as it is kept.
-#[derive(Debug, Drop)]
+#[derive(Drop)]
 pub(crate) struct Written {
     pub object: Object,
     pub stored: StoredObject,

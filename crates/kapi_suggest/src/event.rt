@@ -22,7 +22,7 @@ use serde_json::Value;
 use std::alloc::{AllocError, Global};
 
 /// What a line of an audit log shows.
-#[derive(Debug, Drop)]
+#[derive(Drop)]
 pub enum Shown {
     /// A request that was allowed.
     Used(Question),

@@ -4,7 +4,7 @@ use kapi_model::PolicyRule;
 use kapi_text::Sequence;
 
 /// What a user needs at a place.
-#[derive(Debug, Drop)]
+#[derive(Drop)]
 pub struct Suggested {
     pub at: UserScope,
     pub rules: Sequence<PolicyRule>,

@@ -3,7 +3,7 @@ use kapi_text::{Text, TryCopy};
 use std::alloc::{AllocError, Global};
 
 /// A user, and the namespace in which something counts for it, empty where it counts everywhere. Places are in the order of users.
-#[derive(Debug, PartialEq, Eq, PartialOrd, Ord, Drop)]
+#[derive(PartialEq, Eq, PartialOrd, Ord, Drop)]
 pub struct UserScope {
     pub user: Text,
     pub namespace: Text,

@@ -17,7 +17,7 @@ impl TryCopy for u8 {
 }
 
 /// A vector that contracts see as its list: two sequences are equal if their items are.
-#[derive(Debug, Drop)]
+#[derive(Drop)]
 pub struct Sequence<T> {
     items: Vec<T>,
 }

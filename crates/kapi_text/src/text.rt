@@ -8,7 +8,6 @@ use std::marker::Model;
 
 /// A text that contracts see as its bytes: two texts are equal if their bytes are. A copy of at most 16 bytes lies in
 /// the value itself, so it takes no allocation.
-#[derive(Debug)]
 pub struct Text {
     kept: Kept,
 }
@@ -21,7 +20,7 @@ impl Drop for Text {
 }
 
 /// Where the bytes of a text lie.
-#[derive(Debug, Drop)]
+#[derive(Drop)]
 enum Kept {
     Inside(ArrayString<16>),
     Outside(String),

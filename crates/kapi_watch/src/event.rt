@@ -7,7 +7,7 @@ use kapi_store::StoredObject;
 use kapi_text::Text;
 
 /// An object that a watch sees go, with its text at the revision of the change.
-#[derive(Clone, Copy, Debug)]
+#[derive(Clone, Copy)]
 pub struct Removed<'a> {
     pub object: &'a StoredObject,
     pub revision: u64,
@@ -16,7 +16,7 @@ pub struct Removed<'a> {
 }
 
 /// What a watch shows (Kubernetes, 'Efficient detection of changes').
-#[derive(Clone, Copy, Debug)]
+#[derive(Clone, Copy)]
 pub enum Event<'a> {
     /// The object was created, or came to be selected.
     Added(&'a StoredObject),

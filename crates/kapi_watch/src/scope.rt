@@ -16,7 +16,7 @@ use std::alloc::Global;
 use std::marker::Model;
 
 /// A selector, with the form in which labels are looked up in it.
-#[derive(Debug, Drop)]
+#[derive(Drop)]
 pub struct PreparedSelector {
     selector: Selector,
     matcher: Matcher,
@@ -65,7 +65,7 @@ impl PreparedSelector {
 }
 
 /// Which objects a watch shows.
-#[derive(Debug, Drop)]
+#[derive(Drop)]
 pub struct Scope {
     pub row: ResourceRow,
     /// The namespace, empty for all namespaces.
@@ -76,7 +76,7 @@ pub struct Scope {
 }
 
 /// What a change shows, with its revision.
-#[derive(Clone, Copy, Debug)]
+#[derive(Clone, Copy)]
 pub struct Found<'a> {
     pub revision: u64,
     pub event: Event<'a>,

@@ -16,7 +16,7 @@ use kapi_text::{Memory, Sequence};
 use std::alloc::Global;
 
 /// A watch of a store: which objects it selects, which ones it shows first, and its place.
-#[derive(Debug, Drop)]
+#[derive(Drop)]
 pub struct Watch {
     scope: Scope,
     first: Sequence<Shared>,
@@ -29,14 +29,14 @@ pub struct Watch {
 }
 
 /// The place of a watch: how many of the first objects it has shown, and the revision up to which it has shown changes.
-#[derive(Clone, Copy, Debug)]
+#[derive(Clone, Copy)]
 pub struct Cursor {
     told: usize,
     position: u64,
 }
 
 /// What a watch shows next, if there is anything, and the place that it has then.
-#[derive(Clone, Copy, Debug)]
+#[derive(Clone, Copy)]
 pub struct Next<'a> {
     pub event: Option<Event<'a>>,
     pub place: Cursor,
