@@ -1,4 +1,1 @@
-pub mod Reading
-pub mod Parsed
-pub mod Held
 pub mod Short

@@ -1,6 +1,6 @@
 -- The machine that a server begins with.
 use Rattle.std.specs.Prelude.{◌≡◌, ℕ, List, Option, Some, None, Result, Ok, Err}
-use Rattle.kapi.specs.Numbers.{clock_revision}
+use Rattle.kapi_command_line.specs.Numbers.{clock_revision}
 use Rattle.kapi.specs.declared.beginning.BeginError.{BeginError}
 use Rattle.kapi.specs.declared.beginning.BeginError.TheVariants as error
 use Rattle.kapi.specs.declared.beginning.Objects.{Objects}

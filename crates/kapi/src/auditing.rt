@@ -2,14 +2,12 @@
 ghost use Rattle.std.specs.Prelude.{◌≡◌, ◌≤◌, true};
 ghost use Rattle.kapi_core.specs.Table.{fits};
 
-use crate::asking::{doubts_of, tell_unsettled};
-use crate::ending::Ending;
-use crate::kinds::read_kinds;
-use crate::logging::audit_log;
-use crate::manifests::{ReadPolicy, read_policy, tell_refused};
-use crate::program::{AuditFiles, Reading};
-use crate::telling::{print, read_file, tell_reason};
 use kapi_audit::{AuditFault, Audited, NoGate, audit_alone, audit_run};
+use kapi_command_line::{AuditFiles, Reading};
+use kapi_commands::{
+    Ending, ReadPolicy, audit_log, doubts_of, print, read_file, read_kinds, read_policy,
+    tell_reason, tell_refused, tell_unsettled,
+};
 use kapi_lines::{as_text, numbered_lines};
 use kapi_model::ResourceRow;
 use kapi_reasons::{object_reason, question_reason};

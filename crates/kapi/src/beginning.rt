@@ -4,7 +4,7 @@ ghost use Rattle.kapi.specs.Beginning.{Begins, first_given, machine_with};
 ghost use Rattle.kapi_core.specs.Table.{fits};
 ghost use Rattle.kapi_loading.specs.Starting.{Starts};
 
-use crate::numbers::clock_revision;
+use kapi_command_line::clock_revision;
 use kapi_loading::{StartError, Started, start, start_without_objects};
 use kapi_model::ResourceRow;
 use kapi_text::Sequence;

@@ -3,41 +3,24 @@
 //! transcripts; `kapi compare`, `kapi who`, `kapi what`, `kapi risks` and `kapi paths` answer questions about policies.
 #![tactic(auto)]
 
-mod arguments;
-mod asking;
 mod auditing;
 mod beginning;
 mod bounded_lines;
-mod checking;
-mod command_line;
-mod doubts;
-mod ending;
 mod kept_lines;
-mod kinds;
-mod logging;
-mod manifests;
-mod numbers;
-mod policies;
-mod program;
 mod replaying;
 mod serving;
-mod suggesting;
-mod system_reason;
-mod telling;
-mod wrong_words;
 
-use asking::{run_compare, run_paths, run_risks, run_what, run_who};
 use auditing::run_audit;
-use checking::run_check;
 use clap::Error;
-use command_line::command;
-use ending::Ending;
+use kapi_command_line::{Command, CommandFault, command, complaint};
+use kapi_commands::{
+    Ending, read_kinds, run_check, run_compare, run_paths, run_risks, run_suggest, run_what,
+    run_who, tell_reason, tell_stopped,
+};
 use kapi_index::IndexedPolicy;
 use kapi_reasons::script_reason;
 use kapi_script::{ScriptFault, script_run};
 use kept_lines::KeptLines;
-use kinds::read_kinds;
-use program::{Command, CommandFault};
 use replaying::run_replay;
 use serving::run_serve;
 use std::env::{self, Env};
@@ -48,9 +31,6 @@ use std::process::ExitCode;
 use std::sync::Wait;
 use std::thread::Threads;
 use std::time::Clock;
-use suggesting::run_suggest;
-use telling::{tell_reason, tell_stopped};
-use wrong_words::complaint;
 
 fn main(rt: HostRuntime) -> io::Result<ExitCode> {
     let ended = match named_command(&rt) {

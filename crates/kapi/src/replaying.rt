@@ -1,9 +1,6 @@
 //! Transcripts, played.
-use crate::ending::Ending;
-use crate::kinds::KUBERNETES;
-use crate::manifests::read_texts;
-use crate::program::ReplayOptions;
-use crate::telling::{read_file, tell_unread};
+use kapi_command_line::ReplayOptions;
+use kapi_commands::{Ending, KUBERNETES, read_file, read_texts, tell_unread};
 use kapi_kinds::kubernetes_kinds;
 use kapi_replay::{
     LoadedFile, NamedFile, Outcome, Transcript, are_sure, are_well, junit_text, loaded_names,

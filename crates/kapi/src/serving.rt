@@ -5,13 +5,11 @@ ghost use Rattle.kapi_serve.specs.Listening.{doors};
 
 use crate::beginning::{BeginError, Objects, begin, first_of};
 use crate::bounded_lines::BoundedLines;
-use crate::ending::Ending;
-use crate::kinds::read_kinds;
-use crate::manifests::{ReadPolicy, read_served, tell_unloaded};
-use crate::program::{Listen, ServeOptions};
-use crate::system_reason::Reason;
-use crate::telling::{read_file, tell_reason};
 use kapi_audit::answer_run;
+use kapi_command_line::{Listen, ServeOptions};
+use kapi_commands::{
+    Ending, ReadPolicy, Reason, read_file, read_kinds, read_served, tell_reason, tell_unloaded,
+};
 use kapi_desk::Seat;
 use kapi_loading::{StartError, Started};
 use kapi_model::ResourceRow;

@@ -1,0 +1,4 @@
+pub mod CommandLine
+pub mod Numbers
+pub mod Listens
+pub mod Asked

@@ -1,0 +1,37 @@
+-- The ports that words of a command line specify, and the identities of their clients.
+use Rattle.std.specs.Prelude.{ℕ, Bool, ◌==◌, ◌&&◌, nat_le, nat_lt, if◌then◌else◌, List, [], ◌∷◌, length, Option, Some, None, option_and_then}
+use Rattle.std.specs.List.{position_or_len, before_first, after_first}
+use Rattle.kapi_lines.specs.Identities.{named_identity}
+use Rattle.kapi_command_line.specs.Numbers.{listening_port_of}
+use Rattle.kapi_command_line.specs.declared.program.Listen.{Listen}
+
+infixl 10 ◌>>=◌
+-- a step after another, if there is a value
+abbrev pub ◌>>=◌ : {A B : Type 0} → Option A → (A → Option B) → Option B
+o >>= f = option_and_then f o
+
+-- the texts before and behind the first = of a word, if it has one
+abbrev pub parted : List ℕ → Option (List ℕ × List ℕ)
+parted word =
+    if nat_lt (position_or_len (λ b. b == 61) word) (length word) then Some (before_first (λ b. b == 61) word, after_first (λ b. b == 61) word)
+    else None
+
+-- the port and the identity that a word specifies, as `PORT=USER,GROUP,..`, where the port is 0 only for a free one
+unfoldable pub listen_of : Bool → List ℕ → Option Listen
+listen_of free word = do
+  parts ← parted word
+  port ← listening_port_of free parts.0
+  identity ← named_identity parts.1
+  Some (record { port = port; identity = identity })
+
+-- what each word specifies, in the order of the words; none if one of the words specifies nothing
+abbrev pub listens_of : Bool → List (List ℕ) → Option (List Listen)
+listens_of free [] = Some []
+listens_of free (word ∷ words) = do
+  listen ← listen_of free word
+  listens ← listens_of free words
+  Some (listen ∷ listens)
+
+-- the list, if it has 1 to 16 elements
+abbrev pub few : List Listen → Option (List Listen)
+few listens = if nat_le 1 (length listens) && nat_le (length listens) 16 then Some listens else None

@@ -1,0 +1,2 @@
+pub mod Policies
+pub mod Endings

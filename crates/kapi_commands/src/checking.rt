@@ -1,0 +1,484 @@
+//! What dangles in a policy: `kapi check`.
+use crate::asking::{doubts_of, tell_unsettled};
+use crate::ending::Ending;
+use crate::kinds::read_kinds;
+use crate::manifests::{ReadPolicy, read_policy, tell_refused};
+use crate::policies::{FilesFault, load_first};
+use crate::telling::print;
+use kapi_access::{absent_accounts, bound_places, covered_rules, dangles};
+use kapi_command_line::Asking;
+use kapi_index::IndexedPolicy;
+use kapi_lines::numbered_lines;
+use kapi_manifests::Origin;
+use kapi_model::{PolicyRule, ResourceRow, RoleKind, RoleRef};
+use kapi_policy::{Binding, BindingKind, NamespacedName, Policy};
+use kapi_reviews::Question;
+use kapi_rules::Point;
+use kapi_text::{Memory, Text};
+use serde_json::Value;
+use std::alloc::Global;
+use std::collections::{BTreeMap, BTreeSet};
+use std::fs::Files;
+use std::io;
+
+/// What dangles at an object of a file.
+#[derive(Drop)]
+struct Finding {
+    origin: Origin,
+    text: String,
+}
+
+/// What the objects of a policy are checked against.
+#[derive(Drop)]
+struct Looks<'a> {
+    policy: &'a IndexedPolicy,
+    bindings: &'a [Binding<'a>],
+    /// The index of each binding by its kind and place.
+    places: BTreeMap<Text, usize>,
+    /// The roles that some binding names.
+    bound: BTreeSet<NamespacedName>,
+    /// The service accounts of the files.
+    accounts: BTreeSet<NamespacedName>,
+    /// The resource types that are served besides those of Kubernetes.
+    table: &'a [ResourceRow],
+}
+
+/// An object of a policy: its kind, its namespace and its name.
+#[derive(Clone, Copy)]
+struct Named<'a> {
+    kind: &'a str,
+    namespace: &'a str,
+    name: &'a str,
+}
+
+/// Prints what dangles: status 0 if nothing does, 3 if something does, 4 if the roles are not settled, or 1 after a
+/// line on standard error.
+pub fn run_check<R: Files + Input + Print + Eprint + AllocGlobal + Clone + Drop>(
+    rt: &R,
+    asking: &Asking,
+    kinds: &[String],
+) -> io::Result<Ending> {
+    let Some(table) = read_kinds(rt, kinds)? else {
+        return Ok(Ending::Stopped);
+    };
+    let Some(policy) = read_policy(rt, asking.policy.as_str(), &asking.reading)? else {
+        return Ok(Ending::Stopped);
+    };
+    let engine = match load_first(rt.alloc(), policy.lines()) {
+        Ok(engine) => engine,
+        Err(FilesFault::Memory) => {
+            eprintln!(rt; "out of memory")?;
+            return Ok(Ending::Stopped);
+        }
+        Err(_refused) => {
+            tell_refused(rt, &policy)?;
+            return Ok(Ending::Stopped);
+        }
+    };
+    let findings = findings(rt.alloc(), &policy, &engine.policy, table.as_slice())?;
+    let json = asking.form == kapi_access::Form::Json;
+    print(
+        rt,
+        text_of(rt.alloc(), json, &policy, findings.as_slice())?.as_slice(),
+    )?;
+    tell_unsettled(rt, asking.policy.as_str(), engine.settled)?;
+    let doubted = asking.reading.strict && !policy.has_policy();
+    if !policy.has_policy() {
+        drop(doubts_of(rt, asking.policy.as_str(), &policy)?);
+    }
+    let ending = if findings.is_empty() {
+        Ending::Done
+    } else {
+        Ending::Dangles
+    };
+    Ok(ending.or_doubted(doubted).or_unsettled(engine.settled))
+}
+
+/// The findings as they are printed, a line each.
+fn text_of(
+    alloc: Global,
+    json: bool,
+    policy: &ReadPolicy,
+    findings: &[Finding],
+) -> Result<Vec<u8>, Memory> {
+    let mut text = Vec::new(alloc);
+    for finding in findings {
+        let name = policy.name_of(finding.origin);
+        let line = finding.origin.line;
+        let found = finding.text.as_str();
+        let printed = if json {
+            let name = Value::String(String::from_str(alloc, name)?).to_string(alloc)?;
+            let found = Value::String(String::from_str(alloc, found)?).to_string(alloc)?;
+            format!(in alloc; "{{\"file\":{name},\"finding\":{found},\"line\":{line}}}\n")?
+        } else {
+            format!(in alloc; "{name}:{line}: {found}\n")?
+        };
+        text.extend_from_slice(printed.as_bytes())?;
+    }
+    Ok(text)
+}
+
+/// What dangles, in the order of the files' objects.
+fn findings(
+    alloc: Global,
+    read: &ReadPolicy,
+    policy: &IndexedPolicy,
+    table: &[ResourceRow],
+) -> Result<Vec<Finding>, Memory> {
+    let bindings = policy.bindings()?;
+    let looks = Looks {
+        policy,
+        bindings: bindings.as_slice(),
+        places: places_of(alloc, bindings.as_slice())?,
+        bound: bound_places(alloc, bindings.as_slice())?,
+        accounts: read.accounts(alloc)?,
+        table,
+    };
+    let mut found = Vec::new(alloc);
+    let lines = numbered_lines(alloc, read.lines())?;
+    for (line, origin) in lines.iter().zip(read.prepared.origins.iter()) {
+        // Objects that stand beneath the files have no line.
+        if origin.line > 0 {
+            if let Ok(object) = Value::from_slice(alloc, line.text) {
+                look_at(alloc, &looks, *origin, &object, &mut found)?;
+            }
+        }
+    }
+    Ok(found)
+}
+
+fn look_at(
+    alloc: Global,
+    looks: &Looks<'_>,
+    origin: Origin,
+    object: &Value,
+    found: &mut Vec<Finding>,
+) -> Result<(), Memory> {
+    let named = named_by(object);
+    match named.kind {
+        "Role" => look_at_role(alloc, looks, RoleKind::Role, named, false, origin, found),
+        "ClusterRole" => {
+            let fed = feeds_another(object);
+            look_at_role(
+                alloc,
+                looks,
+                RoleKind::ClusterRole,
+                named,
+                fed,
+                origin,
+                found,
+            )
+        }
+        "RoleBinding" | "ClusterRoleBinding" => {
+            look_at_binding(alloc, looks, named, origin, found)
+        }
+        _ => Ok(()),
+    }
+}
+
+// ---- bindings
+
+/// The index of each binding by its kind and place.
+fn places_of(alloc: Global, bindings: &[Binding<'_>]) -> Result<BTreeMap<Text, usize>, Memory> {
+    let mut places = BTreeMap::new(alloc);
+    for (index, binding) in bindings.iter().enumerate() {
+        let kind = binding_kind(binding.kind);
+        let named = Named {
+            kind,
+            namespace: binding.namespace,
+            name: binding.name,
+        };
+        drop(places.insert(Text::new(words_of(alloc, named)?), index)?);
+    }
+    Ok(places)
+}
+
+fn look_at_binding(
+    alloc: Global,
+    looks: &Looks<'_>,
+    named: Named<'_>,
+    origin: Origin,
+    found: &mut Vec<Finding>,
+) -> Result<(), Memory> {
+    let words = words_of(alloc, named)?;
+    let key = Text::copy_of(alloc, words.as_str())?;
+    let Some(index) = looks.places.get(&key) else {
+        return Ok(());
+    };
+    let Some(binding) = looks.bindings.get(*index) else {
+        return Ok(());
+    };
+    if dangles(looks.policy, binding) {
+        let kind = binding.role.kind.as_str();
+        let role = binding.role.name.as_str();
+        let text = format!(in alloc;
+            "{words}: {kind} {role} is not in the policy: it gives nothing"
+        )?;
+        found.push(Finding { origin, text })?;
+    }
+    if looks.accounts.len() == 0 {
+        return Ok(());
+    }
+    for account in absent_accounts(alloc, binding, &looks.accounts)?.iter() {
+        let namespace = account.namespace.as_str();
+        let name = account.name.as_str();
+        let text = format!(in alloc; "{words}: there is no ServiceAccount {namespace}/{name}")?;
+        found.push(Finding { origin, text })?;
+    }
+    Ok(())
+}
+
+/// The kind of a binding, in words.
+pub fn binding_kind(kind: BindingKind) -> &'static str {
+    match kind {
+        BindingKind::RoleBinding => "RoleBinding",
+        BindingKind::ClusterRoleBinding => "ClusterRoleBinding",
+    }
+}
+
+// ---- roles
+
+fn look_at_role(
+    alloc: Global,
+    looks: &Looks<'_>,
+    kind: RoleKind,
+    named: Named<'_>,
+    fed: bool,
+    origin: Origin,
+    found: &mut Vec<Finding>,
+) -> Result<(), Memory> {
+    let words = words_of(alloc, named)?;
+    let place = NamespacedName {
+        namespace: Text::copy_of(alloc, named.namespace)?,
+        name: Text::copy_of(alloc, named.name)?,
+    };
+    if !fed && !looks.bound.contains(&place) {
+        let text = format!(in alloc; "{words}: nothing binds it")?;
+        found.push(Finding { origin, text })?;
+    }
+    let role = RoleRef {
+        kind,
+        name: Text::copy_of(alloc, named.name)?,
+    };
+    let Some(rules) = looks.policy.role_rules(&role, named.namespace) else {
+        return Ok(());
+    };
+    look_for_covered(alloc, words.as_str(), rules, origin, found)?;
+    for (index, rule) in rules.iter().enumerate() {
+        look_at_resources(
+            alloc,
+            looks.table,
+            words.as_str(),
+            index,
+            rule,
+            origin,
+            found,
+        )?;
+    }
+    Ok(())
+}
+
+/// Notes the rules of a role that another rule of it covers.
+fn look_for_covered(
+    alloc: Global,
+    words: &str,
+    rules: &[PolicyRule],
+    origin: Origin,
+    found: &mut Vec<Finding>,
+) -> Result<(), Memory> {
+    for covered in covered_rules(alloc, rules)?.iter() {
+        let rule = covered.rule;
+        let by = covered.by;
+        let text = format!(in alloc; "{words}: rule {by} covers rule {rule}")?;
+        found.push(Finding { origin, text })?;
+    }
+    Ok(())
+}
+
+/// Notes the resources of a rule that no kind of its group serves.
+fn look_at_resources(
+    alloc: Global,
+    table: &[ResourceRow],
+    words: &str,
+    index: usize,
+    rule: &PolicyRule,
+    origin: Origin,
+    found: &mut Vec<Finding>,
+) -> Result<(), Memory> {
+    for resource in rule.resources.as_slice() {
+        let resource = resource.as_str();
+        if !is_served(table, rule, resource) {
+            let text = format!(in alloc;
+                "{words}: rule {index}: no kind serves the resource {resource}"
+            )?;
+            found.push(Finding { origin, text })?;
+        }
+    }
+    Ok(())
+}
+
+/// The resources of Kubernetes 1.33, by group, as `kubectl api-resources` lists them.
+const SERVED: [(&str, &str); 18] = [
+    (
+        "",
+        "bindings componentstatuses configmaps endpoints events limitranges namespaces nodes persistentvolumeclaims persistentvolumes pods podtemplates replicationcontrollers resourcequotas secrets serviceaccounts services users groups",
+    ),
+    (
+        "admissionregistration.k8s.io",
+        "mutatingwebhookconfigurations validatingadmissionpolicies validatingadmissionpolicybindings validatingwebhookconfigurations",
+    ),
+    ("apiextensions.k8s.io", "customresourcedefinitions"),
+    ("apiregistration.k8s.io", "apiservices"),
+    (
+        "apps",
+        "controllerrevisions daemonsets deployments replicasets statefulsets",
+    ),
+    (
+        "authentication.k8s.io",
+        "selfsubjectreviews tokenreviews uids userextras",
+    ),
+    (
+        "authorization.k8s.io",
+        "localsubjectaccessreviews selfsubjectaccessreviews selfsubjectrulesreviews subjectaccessreviews",
+    ),
+    ("autoscaling", "horizontalpodautoscalers"),
+    ("batch", "cronjobs jobs"),
+    ("certificates.k8s.io", "certificatesigningrequests signers"),
+    ("coordination.k8s.io", "leases"),
+    ("discovery.k8s.io", "endpointslices"),
+    ("events.k8s.io", "events"),
+    (
+        "flowcontrol.apiserver.k8s.io",
+        "flowschemas prioritylevelconfigurations",
+    ),
+    (
+        "networking.k8s.io",
+        "ingressclasses ingresses ipaddresses networkpolicies servicecidrs",
+    ),
+    ("policy", "poddisruptionbudgets podsecuritypolicies"),
+    (
+        "rbac.authorization.k8s.io",
+        "clusterrolebindings clusterroles rolebindings roles",
+    ),
+    (
+        "storage.k8s.io",
+        "csidrivers csinodes csistoragecapacities storageclasses volumeattachments",
+    ),
+];
+
+/// Whether some group of the rule may have the resource: `*` may have any, and so may groups of which no kind is known.
+fn is_served(table: &[ResourceRow], rule: &PolicyRule, resource: &str) -> bool {
+    let whole = match resource.split_once('/') {
+        Some((whole, _subresource)) => whole,
+        None => resource,
+    };
+    whole == "*"
+        || rule
+            .api_groups
+            .as_slice()
+            .iter()
+            .any(|group| has_resource(table, group.as_str(), whole))
+}
+
+fn has_resource(table: &[ResourceRow], group: &str, resource: &str) -> bool {
+    let of_kubernetes = SERVED.iter().find(|served| served.0 == group);
+    let is_added = table.iter().any(|row| row.group.as_str() == group
+        && row.plural.as_str() == resource);
+    match of_kubernetes {
+        Some(served) => is_added || served.1.split(' ').any(|known| known == resource),
+        None => is_added || !table.iter().any(|row| row.group.as_str() == group),
+    }
+}
+
+// ---- names
+
+fn text_at<'a>(object: &'a Value, key: &str) -> &'a str {
+    match object.get(key) {
+        Some(Value::String(text)) => text.as_str(),
+        _ => "",
+    }
+}
+
+/// The kind and the place of an object.
+pub fn place_of<'a>(object: &'a Value) -> (&'a str, &'a str, &'a str) {
+    let kind = text_at(object, "kind");
+    match object.get("metadata") {
+        Some(metadata) => (
+            kind,
+            text_at(metadata, "namespace"),
+            text_at(metadata, "name"),
+        ),
+        None => (kind, "", ""),
+    }
+}
+
+fn named_by(object: &Value) -> Named<'_> {
+    let (kind, namespace, name) = place_of(object);
+    Named {
+        kind,
+        namespace,
+        name,
+    }
+}
+
+/// Whether a cluster role has a label by which Kubernetes' own roles take its rules (Kubernetes, 'Using RBAC
+/// Authorization', 'Aggregated ClusterRoles').
+fn feeds_another(object: &Value) -> bool {
+    let labels = match object.get("metadata") {
+        Some(metadata) => metadata.get("labels"),
+        None => None,
+    };
+    match labels {
+        Some(Value::Object(labels)) => labels.iter().any(|(key, _value)| key.starts_with(
+            "rbac.authorization.k8s.io/aggregate-to-",
+        )),
+        _ => false,
+    }
+}
+
+fn words_of(alloc: Global, named: Named<'_>) -> Result<String, Memory> {
+    place_words(alloc, named.kind, named.namespace, named.name)
+}
+
+/// A request in words, as `User ann: get pods/log named web of apps in namespace shop`.
+pub fn request_words(alloc: Global, question: &Question) -> Result<String, Memory> {
+    let user = question.identity.user.as_str();
+    let point = match &question.point {
+        Point::Url(point) => {
+            let verb = point.verb.as_str();
+            let path = point.path.as_str();
+            return format!(in alloc; "User {user}: {verb} {path}");
+        }
+        Point::Resource(point) => point,
+    };
+    let verb = point.verb.as_str();
+    let resource = point.resource.as_str();
+    let mut words = format!(in alloc; "User {user}: {verb} {resource}")?;
+    push_word(&mut words, "/", point.subresource.as_str())?;
+    push_word(&mut words, " of ", point.group.as_str())?;
+    push_word(&mut words, " named ", point.name.as_str())?;
+    push_word(&mut words, " in namespace ", question.namespace.as_str())?;
+    Ok(words)
+}
+
+/// Appends a separator and a word, unless the word is empty.
+fn push_word(words: &mut String, part: &str, word: &str) -> Result<(), Memory> {
+    if word.is_empty() {
+        return Ok(());
+    }
+    words.push_str(part)?;
+    words.push_str(word)
+}
+
+/// The kind, the namespace if there is one, and the name.
+pub fn place_words(
+    alloc: Global,
+    kind: &str,
+    namespace: &str,
+    name: &str,
+) -> Result<String, Memory> {
+    if namespace.is_empty() {
+        return format!(in alloc; "{kind} {name}");
+    }
+    format!(in alloc; "{kind} {namespace}/{name}")
+}
