@@ -6,16 +6,16 @@ use Rattle.kapi_replay.specs.Failures.{FailsAs, FailsBy, FailsOn, IsBadLine, IsN
 use Rattle.kapi_replay.specs.Outcomes.{AreAlike, ArePlayed, IsReplayed, IsReported, checks_in}
 use Rattle.kapi_replay.specs.Playing.{Fails}
 use Rattle.kapi_reasons.specs.Reasons.{is_reason}
-use Rattle.kapi_replay.specs.declared.failure.Check.{Check}
-use Rattle.kapi_replay.specs.declared.failure.Failure.{Failure}
-use Rattle.kapi_replay.specs.declared.failure.Outcome.{Outcome}
-use Rattle.kapi_replay.specs.declared.failure.Failure.TheVariants as failure
-use Rattle.kapi_replay.specs.declared.files.LoadedFile.{LoadedFile}
-use Rattle.kapi_replay.specs.declared.files.Transcript.{Transcript}
+use Rattle.kapi_transcripts.specs.declared.failure.Check.{Check}
+use Rattle.kapi_transcripts.specs.declared.failure.Failure.{Failure}
+use Rattle.kapi_transcripts.specs.declared.failure.Outcome.{Outcome}
+use Rattle.kapi_transcripts.specs.declared.failure.Failure.TheVariants as failure
+use Rattle.kapi_transcripts.specs.declared.files.LoadedFile.{LoadedFile}
+use Rattle.kapi_transcripts.specs.declared.files.Transcript.{Transcript}
 use Rattle.kapi_script.specs.Scripts.{IsAnsweredBy, first_bad, lines, said}
 use Rattle.kapi_loading.specs.Faults.{FileFault, bad_line}
-use Rattle.kapi_replay.specs.declared.case.Case.{Case}
-use Rattle.kapi_replay.specs.declared.case.Loaded.{Loaded}
+use Rattle.kapi_transcripts.specs.declared.case.Case.{Case}
+use Rattle.kapi_transcripts.specs.declared.case.Loaded.{Loaded}
 
 some_is : (xs ys : List ℕ) → Some xs ≡ Some ys → xs ≡ ys
 some_is xs ys e = cc

@@ -7,11 +7,11 @@ use Rattle.kapi_manifests.specs.declared.prepared.Prepared.{Prepared}
 use Rattle.kapi_model.specs.declared.row.ResourceRow.{ResourceRow}
 use Rattle.kapi_replay.specs.Failures.{FailsOn}
 use Rattle.kapi_replay.specs.Manifests.{FailsAlone, FailsBehind, FailsTexts, IsFaultAt, IsRead, IsRefused, origin_at}
-use Rattle.kapi_replay.specs.declared.failure.Failure.{Failure}
-use Rattle.kapi_replay.specs.declared.files.LoadedFile.{LoadedFile}
-use Rattle.kapi_replay.specs.declared.case.Case.{Case}
-use Rattle.kapi_replay.specs.declared.case.Loaded.{Loaded}
-use Rattle.kapi_replay.specs.declared.case.Manifests.{Manifests}
+use Rattle.kapi_transcripts.specs.declared.failure.Failure.{Failure}
+use Rattle.kapi_transcripts.specs.declared.files.LoadedFile.{LoadedFile}
+use Rattle.kapi_transcripts.specs.declared.case.Case.{Case}
+use Rattle.kapi_transcripts.specs.declared.case.Loaded.{Loaded}
+use Rattle.kapi_transcripts.specs.declared.case.Manifests.{Manifests}
 
 -- the machine is the one that lines make alone
 pub alone : {V E : Type 0} (items : V → List Failure) (r : Result V E) (m : Machine) (loads : List LoadedFile) (c : Case) (files : List Loaded) (p : Prepared) (given : Result Machine FileFault)

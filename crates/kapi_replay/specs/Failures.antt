@@ -10,14 +10,14 @@ use Rattle.kapi_lines.specs.Words.{begins, nth}
 use Rattle.kapi_loading.specs.Loading.{machine_of}
 use Rattle.kapi_model.specs.declared.row.ResourceRow.{ResourceRow}
 use Rattle.kapi_reasons.specs.Reasons.{is_reason}
-use Rattle.kapi_replay.specs.Reports.{line_at}
-use Rattle.kapi_replay.specs.Wants.{is_met}
-use Rattle.kapi_replay.specs.declared.case.Case.{Case}
-use Rattle.kapi_replay.specs.declared.case.ScriptLine.{ScriptLine}
-use Rattle.kapi_replay.specs.declared.case.Loaded.{Loaded}
-use Rattle.kapi_replay.specs.declared.case.Want.{Want}
-use Rattle.kapi_replay.specs.declared.failure.Failure.{Failure}
-use Rattle.kapi_replay.specs.declared.failure.Failure.TheVariants as failure
+use Rattle.kapi_transcripts.specs.Reports.{line_at}
+use Rattle.kapi_transcripts.specs.Wants.{is_met}
+use Rattle.kapi_transcripts.specs.declared.case.Case.{Case}
+use Rattle.kapi_transcripts.specs.declared.case.ScriptLine.{ScriptLine}
+use Rattle.kapi_transcripts.specs.declared.case.Loaded.{Loaded}
+use Rattle.kapi_transcripts.specs.declared.case.Want.{Want}
+use Rattle.kapi_transcripts.specs.declared.failure.Failure.{Failure}
+use Rattle.kapi_transcripts.specs.declared.failure.Failure.TheVariants as failure
 use Rattle.kapi_script.specs.Scripts.{first_bad, lines, said}
 
 -- a line of a script, with its end

@@ -5,8 +5,8 @@ use Rattle.kapi_core.specs.ProgramTable.{program_rows}
 use Rattle.kapi_kinds.specs.Tables.{table_in}
 use Rattle.kapi_model.specs.declared.row.ResourceRow.{ResourceRow}
 use Rattle.kapi_replay.specs.Manifests.{all_texts}
-use Rattle.kapi_replay.specs.declared.case.Case.{Case}
-use Rattle.kapi_replay.specs.declared.files.LoadedFile.{LoadedFile}
+use Rattle.kapi_transcripts.specs.declared.case.Case.{Case}
+use Rattle.kapi_transcripts.specs.declared.files.LoadedFile.{LoadedFile}
 
 -- the table that the files of kinds of a case make, if they make one
 abbrev pub table_of : List LoadedFile → Case → Option (List ResourceRow)

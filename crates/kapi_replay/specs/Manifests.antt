@@ -15,15 +15,15 @@ use Rattle.kapi_manifests.specs.declared.prepared.Prepared.{Prepared}
 use Rattle.kapi_manifests.specs.declared.sorted.Scope.TheVariants.{All}
 use Rattle.kapi_reasons.specs.Reasons.{is_shown}
 use Rattle.kapi_replay.specs.Failures.{FailsOn}
-use Rattle.kapi_replay.specs.Files.{texts_named}
-use Rattle.kapi_replay.specs.Reports.{place_text}
-use Rattle.kapi_replay.specs.declared.failure.Failure.{Failure}
-use Rattle.kapi_replay.specs.declared.failure.Failure.TheVariants as failure
-use Rattle.kapi_replay.specs.declared.files.LoadedFile.{LoadedFile}
-use Rattle.kapi_replay.specs.Requests.{number_line}
-use Rattle.kapi_replay.specs.declared.case.Case.{Case}
-use Rattle.kapi_replay.specs.declared.case.Loaded.{Loaded}
-use Rattle.kapi_replay.specs.declared.case.Manifests.{Manifests}
+use Rattle.kapi_transcripts.specs.Files.{texts_named}
+use Rattle.kapi_transcripts.specs.Reports.{place_text}
+use Rattle.kapi_transcripts.specs.declared.failure.Failure.{Failure}
+use Rattle.kapi_transcripts.specs.declared.failure.Failure.TheVariants as failure
+use Rattle.kapi_transcripts.specs.declared.files.LoadedFile.{LoadedFile}
+use Rattle.kapi_transcripts.specs.Requests.{number_line}
+use Rattle.kapi_transcripts.specs.declared.case.Case.{Case}
+use Rattle.kapi_transcripts.specs.declared.case.Loaded.{Loaded}
+use Rattle.kapi_transcripts.specs.declared.case.Manifests.{Manifests}
 
 -- the texts of files, one file after the other
 abbrev pub all_texts : List LoadedFile → List Loaded → List (List ℕ)

@@ -1,25 +1,19 @@
 -- What became of transcripts.
 use Rattle.std.specs.Prelude.{◌≡◌, ℕ, Bool, List, [], ◌∷◌, ◌++◌, map, Option}
-use Rattle.std.specs.List.{flat_map, list_all}
+use Rattle.std.specs.List.{list_all}
 use Rattle.std.specs.Io.KnownBytes.{Appends}
-use Rattle.kapi_lines.specs.Lines.{lines_of, parts_of}
-use Rattle.kapi_replay.specs.Cases.{cases_of}
-use Rattle.kapi_replay.specs.declared.case.Beginning.{Beginning}
-use Rattle.kapi_replay.specs.declared.case.Beginning.TheVariants as beginning
-use Rattle.kapi_replay.specs.declared.case.Case.{Case}
-use Rattle.kapi_replay.specs.Asked.{doubts_of}
+use Rattle.kapi_lines.specs.Lines.{parts_of}
+use Rattle.kapi_transcripts.specs.Loads.{cases_in}
+use Rattle.kapi_transcripts.specs.declared.case.Case.{Case}
+use Rattle.kapi_replay.specs.Doubts.{doubts_of}
 use Rattle.kapi_replay.specs.Failures.{bare}
 use Rattle.kapi_replay.specs.Playing.{Fails}
-use Rattle.kapi_replay.specs.Reports.{is_difference, written}
-use Rattle.kapi_replay.specs.declared.failure.Check.{Check}
-use Rattle.kapi_replay.specs.declared.failure.Failure.{Failure}
-use Rattle.kapi_replay.specs.declared.failure.Outcome.{Outcome}
-use Rattle.kapi_replay.specs.declared.files.LoadedFile.{LoadedFile}
-use Rattle.kapi_replay.specs.declared.files.Transcript.{Transcript}
-
--- the cases of a transcript
-abbrev pub cases_in : List ℕ → List Case
-cases_in transcript = cases_of (lines_of transcript)
+use Rattle.kapi_transcripts.specs.Reports.{is_difference, written}
+use Rattle.kapi_transcripts.specs.declared.failure.Check.{Check}
+use Rattle.kapi_transcripts.specs.declared.failure.Failure.{Failure}
+use Rattle.kapi_transcripts.specs.declared.failure.Outcome.{Outcome}
+use Rattle.kapi_transcripts.specs.declared.files.LoadedFile.{LoadedFile}
+use Rattle.kapi_transcripts.specs.declared.files.Transcript.{Transcript}
 
 -- the checks of a case with these failures: its answers were compared if these are all differences
 abbrev pub checks_in : Case → List Failure → List Check
@@ -52,19 +46,3 @@ IsReplayed rewrites [] before contents outcomes = Appends before contents [] × 
 IsReplayed rewrites (t ∷ ts) before contents outcomes =
     (between : Option (List ℕ)) × (o : Outcome) × (rest : List Outcome) × IsReported rewrites t before between o
     × IsReplayed rewrites ts between contents rest × (outcomes ≡ o ∷ rest)
-
--- ---- the files that are loaded
-
--- the names of the files that a case begins with
-abbrev pub names_of : Beginning → List (List ℕ)
-names_of beginning.Opening = []
-names_of (beginning.Lines file) = file.name ∷ []
-names_of (beginning.Manifests m) = map (λ f. f.name) m.files
-
--- the names of the files that a case has: its files of kinds, and those that it begins with
-abbrev pub names_in : Case → List (List ℕ)
-names_in c = map (λ f. f.name) c.kinds ++ names_of c.begins
-
--- the names of the files that a transcript's cases have
-abbrev pub loaded_names : List ℕ → List (List ℕ)
-loaded_names transcript = flat_map names_in (cases_in transcript)

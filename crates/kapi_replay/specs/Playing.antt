@@ -2,19 +2,19 @@
 use Rattle.std.specs.Prelude.{◌≡◌, ℕ, List, [], ◌∷◌, Option, Some, None}
 use Rattle.kapi_core.specs.Machine.{with_rechecks}
 use Rattle.kapi_replay.specs.Failures.{FailsLoaded, FailsOn}
-use Rattle.kapi_replay.specs.Files.{only_text, texts_named}
+use Rattle.kapi_transcripts.specs.Files.{only_text, texts_named}
 use Rattle.kapi_manifests.specs.declared.fault.Origin.{Origin}
 use Rattle.kapi_replay.specs.Kinds.{table_of}
 use Rattle.kapi_replay.specs.Manifests.{FailsManifests, IsFaultAt, first_missing}
-use Rattle.kapi_replay.specs.declared.failure.Failure.{Failure}
-use Rattle.kapi_replay.specs.declared.failure.Failure.TheVariants as failure
-use Rattle.kapi_replay.specs.declared.files.LoadedFile.{LoadedFile}
+use Rattle.kapi_transcripts.specs.declared.failure.Failure.{Failure}
+use Rattle.kapi_transcripts.specs.declared.failure.Failure.TheVariants as failure
+use Rattle.kapi_transcripts.specs.declared.files.LoadedFile.{LoadedFile}
 use Rattle.kapi_model.specs.declared.row.ResourceRow.{ResourceRow}
 use Rattle.kapi_script.specs.Scripts.{start}
-use Rattle.kapi_replay.specs.declared.case.Beginning.{Beginning}
-use Rattle.kapi_replay.specs.declared.case.Beginning.TheVariants as beginning
-use Rattle.kapi_replay.specs.declared.case.Case.{Case}
-use Rattle.kapi_replay.specs.declared.case.Loaded.{Loaded}
+use Rattle.kapi_transcripts.specs.declared.case.Beginning.{Beginning}
+use Rattle.kapi_transcripts.specs.declared.case.Beginning.TheVariants as beginning
+use Rattle.kapi_transcripts.specs.declared.case.Case.{Case}
+use Rattle.kapi_transcripts.specs.declared.case.Loaded.{Loaded}
 
 -- the failures of a case that begins with a file of objects, or the failure of the missing file
 abbrev pub FailsWith : List ResourceRow → Case → Loaded → Option (List ℕ) → List Failure → Type 0

@@ -2,22 +2,17 @@
 ghost use Rattle.std.specs.Prelude.{◌≡◌, ◌++◌, IfOk, OnOk, option_map};
 ghost use Rattle.std.specs.List.{flat_map, list_any};
 ghost use Rattle.kapi_replay.specs.Kinds.{known_table as table_of};
-ghost use Rattle.kapi_replay.specs.Asked as asks;
-ghost use Rattle.kapi_replay.specs.Asked.{doubts_of as doubts_of_cases, wants_refusal as wants_refusal_of};
+ghost use Rattle.kapi_replay.specs.Doubts as asks;
+ghost use Rattle.kapi_replay.specs.Doubts.{doubts_of as doubts_of_cases, wants_refusal as wants_refusal_of};
 ghost use Rattle.kapi_answer.specs.Route.{is_row_of as is_row_of_point};
 
-use crate::asked::attributes_of;
-use crate::case::{Case, ScriptLine, Want};
-use crate::failure::Doubt;
-use crate::files::LoadedFile;
 use crate::kinds::known_table;
 use crate::play::number_at;
-use crate::report::line_at;
-use crate::wanted::Wanted;
 use kapi_model::ResourceRow;
 use kapi_request_info::Attributes;
 use kapi_rules::{Point, ResourcePoint};
 use kapi_text::{Memory, Sequence, Text};
+use kapi_transcripts::{Case, Doubt, LoadedFile, ScriptLine, Want, Wanted, attributes_of, line_at};
 use std::alloc::Global;
 
 /// Whether the resource type is that of the point and the version.

@@ -3,15 +3,9 @@
 ghost use Rattle.std.specs.Prelude.{◌≡◌, [], IfOk, IfSome, map};
 ghost use Rattle.kapi_replay.specs.Failures.{bare};
 
-use crate::asked::attributes_of;
-use crate::case::{Beginning, Case};
-use crate::failure::{Difference, Failure};
-use crate::files::{LoadedFile, only_text, texts_named};
-use crate::form::{Form, parse_form};
 use crate::kinds::known_table;
 use crate::manifests::read_manifests;
 use crate::play::script_text;
-use crate::report::line_at;
 use kapi_core::Core;
 use kapi_index::IndexedPolicy;
 use kapi_lines::{as_text, read_identity};
@@ -22,6 +16,10 @@ use kapi_reviews::reason;
 use kapi_rules::Point;
 use kapi_script::play_script;
 use kapi_text::{Memory, Sequence, Text};
+use kapi_transcripts::{
+    Beginning, Case, Difference, Failure, Form, LoadedFile, attributes_of, line_at, only_text,
+    parse_form, texts_named,
+};
 use std::alloc::{AllocError, Global};
 use std::sync::Wait;
 

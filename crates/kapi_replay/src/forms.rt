@@ -2,9 +2,9 @@
 ghost use Rattle.std.specs.Prelude.{◌≡◌, true, IfOk, IfSome};
 ghost use Rattle.kapi_reasons.specs.Reasons.{is_reason};
 
-use crate::form::{Form, parse_form};
 use kapi_reasons::{event_reason, names_reason};
 use kapi_text::Memory;
+use kapi_transcripts::{Form, parse_form};
 use std::alloc::Global;
 
 /// The words that a line of a transcript may begin with.

@@ -4,13 +4,12 @@ ghost use Rattle.kapi_core.specs.Table.{fits};
 ghost use Rattle.kapi_kinds.specs.Tables.{faults_told, table_told};
 ghost use Rattle.kapi_replay.specs.Kinds as known;
 
-use crate::case::Case;
-use crate::files::LoadedFile;
 use crate::manifests::all_texts;
 use kapi_core::program_table;
 use kapi_kinds::{Kinds, table_of};
 use kapi_model::ResourceRow;
 use kapi_text::{Memory, Sequence};
+use kapi_transcripts::{Case, LoadedFile};
 use std::alloc::Global;
 
 /// The table that the files of kinds of a case make, or what is wrong with them.

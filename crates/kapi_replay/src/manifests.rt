@@ -7,17 +7,14 @@ ghost use Rattle.kapi_reasons.specs.Reasons.{is_shown};
 ghost use Rattle.kapi_replay.specs.Manifests as manifests;
 ghost use Rattle.kapi_replay.specs.Manifests.{FailsAlone, FailsBehind, FailsManifests, FailsTexts, IsFaultAt, IsRead, IsRefused};
 
-use crate::case::{Case, Loaded, Manifests};
-use crate::failure::Failure;
-use crate::files::{LoadedFile, texts_named};
 use crate::play::{only, play_on};
-use crate::request::push_number;
 use kapi_lines::nth;
 use kapi_loading::{StartError, Started, start_without_objects};
 use kapi_manifests::{Fault, Options, Origin, Prepared, Scope, prepare};
 use kapi_model::ResourceRow;
 use kapi_reasons::{LineReason, line_reasons};
 use kapi_text::{Memory, Sequence};
+use kapi_transcripts::{Case, Failure, Loaded, LoadedFile, Manifests, push_number, texts_named};
 use std::alloc::{AllocError, Global};
 use std::sync::Wait;
 

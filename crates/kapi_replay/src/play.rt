@@ -5,15 +5,12 @@ ghost use Rattle.kapi_loading.specs.Loading.{machine_of};
 ghost use Rattle.kapi_core.specs.Refines.{Refines};
 ghost use Rattle.kapi_core.specs.Table.{fits};
 ghost use Rattle.kapi_script.specs.Scripts.{start as begun};
-ghost use Rattle.kapi_replay.specs.Reports.{line_at};
+ghost use Rattle.kapi_transcripts.specs.Reports.{line_at};
 ghost use Rattle.kapi_replay.specs.Failures as fails;
-ghost use Rattle.kapi_replay.specs.declared.failure.Failure.TheVariants as failure;
+ghost use Rattle.kapi_transcripts.specs.declared.failure.Failure.TheVariants as failure;
 ghost use Rattle.kapi_replay.specs.Failures.{script_text as script_text_of};
 
-use crate::case::{Case, Loaded, ScriptLine, Want};
-use crate::failure::{Difference, Failure};
 use crate::forms::form_reason;
-use crate::wanted::is_met;
 use kapi_core::Core;
 use kapi_index::IndexedPolicy;
 use kapi_lines::{copy_of, nth, split_lines};
@@ -22,6 +19,7 @@ use kapi_model::ResourceRow;
 use kapi_reasons::object_reason;
 use kapi_script::{ScriptFault, play_script};
 use kapi_text::{Memory, Sequence, Text, TryCopy};
+use kapi_transcripts::{Case, Difference, Failure, Loaded, ScriptLine, Want, is_met};
 use std::alloc::{AllocError, Global};
 use std::sync::Wait;
 

@@ -4,15 +4,13 @@ ghost use Rattle.kapi_core.specs.Table.{fits};
 ghost use Rattle.kapi_replay.specs.Kinds.{table_of};
 ghost use Rattle.kapi_replay.specs.Playing.{Fails, FailsFrom, FailsLines, FailsOver, IsBadKinds};
 
-use crate::case::{Beginning, Case, Loaded};
-use crate::failure::Failure;
-use crate::files::{LoadedFile, only_text, texts_named};
 use crate::kinds::read_kinds;
 use crate::manifests::{fault_failure, first_missing, play_manifests};
 use crate::play::{only, play_begun, play_loaded};
 use kapi_kinds::{Fault, Kinds};
 use kapi_model::ResourceRow;
 use kapi_text::{Memory, Sequence};
+use kapi_transcripts::{Beginning, Case, Failure, Loaded, LoadedFile, only_text, texts_named};
 use std::alloc::Global;
 use std::sync::Wait;
 

@@ -1,20 +1,18 @@
 //! Transcripts, played one after the other.
-ghost use Rattle.std.specs.Prelude.{◌≡◌, ◌++◌, ◌∷◌, [], IfOk, OnOk, map};
+ghost use Rattle.std.specs.Prelude.{◌≡◌, ◌++◌, ◌∷◌, [], IfOk, OnOk};
 ghost use Rattle.kapi_replay.specs.Outcomes as comes;
 ghost use Rattle.std.specs.List.{list_all};
 ghost use Rattle.kapi_replay.specs.Outcomes.{ArePlayed, IsOutcome, IsReplayed};
-ghost use Rattle.kapi_replay.specs.Reports.{is_difference as is_difference_of, is_sure as is_sure_of, is_well as is_well_of};
+ghost use Rattle.kapi_transcripts.specs.Reports.{is_difference as is_difference_of};
 
-use crate::case::{Beginning, Case, Loaded};
 use crate::doubts::doubts_of;
-use crate::draft::cases;
 use crate::explained::explained;
-use crate::failure::{Check, Failure, Outcome};
-use crate::files::{LoadedFile, Transcript};
 use crate::played_case::play_case;
-use crate::report::{is_difference, outcome_text};
-use kapi_lines::{numbered_lines, split_lines};
+use kapi_lines::split_lines;
 use kapi_text::{Memory, Sequence, TryCopy};
+use kapi_transcripts::{
+    Case, Check, Failure, LoadedFile, Outcome, Transcript, cases_in, is_difference, outcome_text,
+};
 use std::alloc::Global;
 use std::io::{self, Write};
 use std::sync::Wait;
@@ -84,15 +82,6 @@ fn play_cases<R: Wait>(
     Ok(Played { checks, failures })
 }
 
-/// The cases of a transcript.
-fn cases_in(alloc: Global, transcript: &[u8]) -> Result<Vec<Case>, Memory>
-    ensures { IfOk result (λ v. v.items ≡ comes.cases_in transcript.now) }
-{
-    let lines = numbered_lines(alloc, transcript)?;
-    let cases = cases(alloc, lines.as_slice())?;
-    Ok(cases)
-}
-
 /// Plays a transcript.
 fn play<R: Wait>(alloc: Global, rt: &R, transcript: &Transcript) -> Result<Outcome, Memory>
     ensures { IfOk result (IsOutcome transcript.now) }
@@ -115,33 +104,6 @@ fn play<R: Wait>(alloc: Global, rt: &R, transcript: &Transcript) -> Result<Outco
         failures: Sequence::new(failures),
         doubts: Sequence::new(doubts),
     })
-}
-
-/// Whether something is checked, and every answer is as wanted.
-fn is_well(outcome: &Outcome) -> bool
-    ensures { result ≡ is_well_of outcome.now }
-{
-    !outcome.checks.as_slice().is_empty() && outcome.failures.as_slice().is_empty()
-}
-
-/// Whether each transcript checks something, and every answer is as wanted.
-pub fn are_well(outcomes: &[Outcome]) -> bool
-    ensures { result ≡ list_all (λ o. is_well_of o) outcomes.now }
-{
-    outcomes.iter().all(|outcome| is_well(outcome))
-}
-
-/// Whether no transcript wants 403 of a resource that is not served.
-pub fn are_sure(outcomes: &[Outcome]) -> bool
-    ensures { result ≡ list_all (λ o. is_sure_of o) outcomes.now }
-{
-    outcomes.iter().all(|outcome| is_sure(outcome))
-}
-
-fn is_sure(outcome: &Outcome) -> bool
-    ensures { result ≡ is_sure_of outcome.now }
-{
-    outcome.doubts.as_slice().is_empty()
 }
 
 /// Plays a transcript and writes its report.
@@ -191,46 +153,4 @@ pub fn replay_run<R: Wait, W: Write>(
         rest = later;
     }
     Ok(outcomes)
-}
-
-/// The names of the files that a transcript's cases begin with.
-pub fn loaded_names(alloc: Global, transcript: &[u8]) -> Result<Vec<Sequence<u8>>, Memory>
-    ensures { IfOk result (λ v. v.items ≡ comes.loaded_names transcript.now) }
-{
-    let mut names = Vec::new(alloc);
-    for case in cases_in(alloc, transcript)?.as_slice() {
-        push_all(alloc, &mut names, case.kinds.as_slice())?;
-        push_names(alloc, &mut names, &case.begins)?;
-    }
-    Ok(names)
-}
-
-fn push_names(
-    alloc: Global,
-    names: &mut Vec<Sequence<u8>>,
-    begins: &Beginning,
-) -> Result<(), Memory>
-    ensures { OnOk result (names.new.items ≡ names.old.items ++ comes.names_of begins.now) }
-{
-    match begins {
-        Beginning::Opening => Ok(()),
-        Beginning::Lines(file) => push_name(alloc, names, file),
-        Beginning::Manifests(manifests) => push_all(alloc, names, manifests.files.as_slice()),
-    }
-}
-
-fn push_all(alloc: Global, names: &mut Vec<Sequence<u8>>, files: &[Loaded]) -> Result<(), Memory>
-    ensures { OnOk result (names.new.items ≡ names.old.items ++ map (λ f. f.name) files.now) }
-{
-    for file in files {
-        push_name(alloc, names, file)?;
-    }
-    Ok(())
-}
-
-fn push_name(alloc: Global, names: &mut Vec<Sequence<u8>>, file: &Loaded) -> Result<(), Memory>
-    ensures { OnOk result (names.new.items ≡ names.old.items ++ file.now.name ∷ []) }
-{
-    names.push(file.name.copy(alloc)?)?;
-    Ok(())
 }

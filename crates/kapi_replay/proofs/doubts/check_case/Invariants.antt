@@ -1,6 +1,6 @@
 use Rattle.std.proofs.Common.{◌≡◌, ◌++◌, take}
 use Rattle.std.specs.List.{flat_map}
-use Rattle.kapi_replay.specs.Asked.{doubt}
+use Rattle.kapi_replay.specs.Doubts.{doubt}
 use Rattle.kapi_replay.proofs.doubts.check_case.Given as goal
 
 abbrev pub invariant-loop-want : goal.invariant-loop-want

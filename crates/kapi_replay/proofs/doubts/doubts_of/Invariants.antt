@@ -1,5 +1,5 @@
 use Rattle.std.proofs.Common.{◌≡◌, take}
-use Rattle.kapi_replay.specs.Asked.{doubts_of}
+use Rattle.kapi_replay.specs.Doubts.{doubts_of}
 use Rattle.kapi_replay.proofs.doubts.doubts_of.Given as goal
 
 abbrev pub invariant-loop-case : goal.invariant-loop-case

@@ -1,7 +1,7 @@
 use Rattle.std.proofs.Common.{List, ◌++◌, length}
 use Rattle.kapi_replay.specs.Outcomes.{ArePlayed}
-use Rattle.kapi_replay.specs.declared.failure.Check.{Check}
-use Rattle.kapi_replay.specs.declared.failure.Failure.{Failure}
+use Rattle.kapi_transcripts.specs.declared.failure.Check.{Check}
+use Rattle.kapi_transcripts.specs.declared.failure.Failure.{Failure}
 use Rattle.kapi_replay.proofs.replay.play_cases.Given as goal
 
 -- with the checks and failures of the cases that are left, these are those of all

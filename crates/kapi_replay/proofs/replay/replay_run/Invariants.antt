@@ -1,6 +1,6 @@
 use Rattle.std.proofs.Common.{List, Option, ℕ, ◌++◌, length}
 use Rattle.kapi_replay.specs.Outcomes.{IsReplayed}
-use Rattle.kapi_replay.specs.declared.failure.Outcome.{Outcome}
+use Rattle.kapi_transcripts.specs.declared.failure.Outcome.{Outcome}
 use Rattle.kapi_replay.proofs.replay.replay_run.Given as goal
 
 -- with the outcomes of the transcripts that are left, these are the outcomes of all

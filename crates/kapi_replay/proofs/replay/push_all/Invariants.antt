@@ -1,5 +1,0 @@
-use Rattle.std.proofs.Common.{◌≡◌, ◌++◌, map, take}
-use Rattle.kapi_replay.proofs.replay.push_all.Given as goal
-
-abbrev pub invariant-loop-file : goal.invariant-loop-file
-invariant-loop-file l = l.names.items ≡ l.initial.names.items ++ map (λ f. f.name) (take l.file-index l.files)

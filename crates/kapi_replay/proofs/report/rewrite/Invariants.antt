@@ -1,6 +1,0 @@
-use Rattle.std.proofs.Common.{◌≡◌, ◌+◌, ◌++◌, drop}
-use Rattle.kapi_replay.specs.Reports.{rewritten, rewritten_from}
-use Rattle.kapi_replay.proofs.report.rewrite.Given as goal
-
-abbrev pub invariant-loop-index : goal.invariant-loop-index
-invariant-loop-index l = l.text.items ++ rewritten_from l.failures (l.index + 1) (drop l.index l.lines) ≡ rewritten l.lines l.failures

@@ -1,0 +1,13 @@
+pub mod Fields
+pub mod Requests
+pub mod Sent
+pub mod Wants
+pub mod Corrections
+pub mod Names
+pub mod Forms
+pub mod Cases
+pub mod Loads
+pub mod Asked
+pub mod Files
+pub mod Reports
+pub mod Junit
