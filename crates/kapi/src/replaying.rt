@@ -55,7 +55,7 @@ fn end<R: Files + Eprint + AllocGlobal>(
 ) -> io::Result<Ending> {
     if let Some(file) = &options.junit {
         let text = junit_text(rt.alloc(), transcripts, outcomes)?;
-        if let Err(error) = fs::write(rt, file.as_str(), text.as_slice()) {
+        if let Err(error) = fs::write(rt, file.as_str(), text.as_bytes()) {
             return tell_unread(rt, file.as_str(), &error);
         }
     }

@@ -10,4 +10,3 @@ pub mod Loads
 pub mod Asked
 pub mod Files
 pub mod Reports
-pub mod Junit
