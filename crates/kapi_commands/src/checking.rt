@@ -9,7 +9,7 @@ use kapi_access::{absent_accounts, bound_places, covered_rules, dangles};
 use kapi_command_line::Asking;
 use kapi_index::IndexedPolicy;
 use kapi_lines::numbered_lines;
-use kapi_manifests::Origin;
+use kapi_manifests::{Origin, text_at};
 use kapi_model::{PolicyRule, ResourceRow, RoleKind, RoleRef};
 use kapi_policy::{Binding, BindingKind, NamespacedName, Policy};
 use kapi_reviews::Question;
@@ -391,13 +391,6 @@ fn has_resource(table: &[ResourceRow], group: &str, resource: &str) -> bool {
 }
 
 // ---- names
-
-fn text_at<'a>(object: &'a Value, key: &str) -> &'a str {
-    match object.get(key) {
-        Some(Value::String(text)) => text.as_str(),
-        _ => "",
-    }
-}
 
 /// The kind and the place of an object.
 pub fn place_of<'a>(object: &'a Value) -> (&'a str, &'a str, &'a str) {

@@ -17,7 +17,7 @@ faults_of namespace texts = faults_in_all scope.Policy namespace texts
 
 -- lines of the policy of files that have no fault
 abbrev pub AreLinesOf : List ℕ → Bool → List (List ℕ) → Prepared → Type 0
-AreLinesOf namespace defaults texts p = Loads scope.Policy namespace defaults false texts p × (faults_of namespace texts ≡ 0)
+AreLinesOf namespace defaults texts p = Loads scope.Policy namespace defaults texts p × (faults_of namespace texts ≡ 0)
 
 -- where the object of a line begins
 abbrev pub origin_of : List Origin → ℕ → Origin

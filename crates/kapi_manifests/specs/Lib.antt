@@ -6,5 +6,4 @@ pub mod Files
 pub mod Standing
 pub mod Made
 pub mod Dangling
-pub mod Words
 pub mod Written

@@ -6,9 +6,8 @@ use Rattle.serde_json.specs.Read.{max_depth, read}
 use Rattle.kapi_manifests.specs.Dangling.{dangling, origin_of}
 use Rattle.kapi_manifests.specs.Files.{bad_pieces, data_of, faults_among, loaded_among, namespaces_among, objects_of, sum_of}
 use Rattle.kapi_manifests.specs.Kinds.{kind_of}
-use Rattle.kapi_manifests.specs.Made.{Names, made}
+use Rattle.kapi_manifests.specs.Made.{made}
 use Rattle.kapi_manifests.specs.Standing.{standing_among, standing_namespaces, standing_objects}
-use Rattle.kapi_manifests.specs.Words.{words_if}
 use Rattle.kapi_manifests.specs.declared.fault.Origin.{Origin}
 use Rattle.kapi_manifests.specs.declared.prepared.Lines.{Lines}
 use Rattle.kapi_manifests.specs.declared.prepared.Prepared.{Prepared}
@@ -62,14 +61,8 @@ pub record IsDangling (defaults : Bool) (origins : List Origin) (objects : List 
   pub are_others : map data_of others ≡ standing_among [] (standing_objects defaults)
   pub all : origins ≡ dangling others objects
 
--- the words that objects name, and those beneath them; none if they are not wanted
-pub record AreNamed (defaults words : Bool) (names : Names) (namespaces objects : List Manifest) : Type 0 where
-  pub others : List Manifest
-  pub are_others : map data_of others ≡ standing_among [] (standing_objects defaults)
-  pub all : names ≡ words_if words others namespaces objects
-
 -- sorted objects are written as lines
-pub record IsWritten (defaults words : Bool) (s : Sorted) (p : Prepared) : Type 0 where
+pub record IsWritten (defaults : Bool) (s : Sorted) (p : Prepared) : Type 0 where
   pub all : List Data
   pub loaded : Loaded defaults s.namespaces.items s.objects.items all
   pub text : AreLines p.text.items all
@@ -78,10 +71,9 @@ pub record IsWritten (defaults words : Bool) (s : Sorted) (p : Prepared) : Type 
   pub roles : p.roles ≡ roles_among (map data_of s.objects.items)
   pub bindings : p.bindings ≡ bindings_among (map data_of s.objects.items)
   pub dangling : IsDangling defaults (map origin_of p.dangling.items) s.objects.items
-  pub named : AreNamed defaults words p.words.named.entries s.namespaces.items s.objects.items
 
 -- what is loaded of files, with the default roles beneath them or not, and a place for each line
-pub record Loads (scope : Scope) (given : List ℕ) (defaults words : Bool) (texts : List (List ℕ)) (p : Prepared) : Type 0 where
+pub record Loads (scope : Scope) (given : List ℕ) (defaults : Bool) (texts : List (List ℕ)) (p : Prepared) : Type 0 where
   pub namespaces : List Manifest
   pub objects : List Manifest
   pub all : List Data
@@ -93,4 +85,3 @@ pub record Loads (scope : Scope) (given : List ℕ) (defaults words : Bool) (tex
   pub roles : p.roles ≡ roles_among (map data_of objects)
   pub bindings : p.bindings ≡ bindings_among (map data_of objects)
   pub dangling : IsDangling defaults (map origin_of p.dangling.items) objects
-  pub named : AreNamed defaults words p.words.named.entries namespaces objects

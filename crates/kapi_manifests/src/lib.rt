@@ -18,6 +18,7 @@ mod words;
 
 pub use dangling::Dangling;
 pub use fault::{Fault, Origin, Reason};
+pub use kinds::text_at;
 pub use prepared::{Prepared, prepare};
 pub use reading::{Objects, read_objects};
 pub use sorted::{Manifest, Options, Scope};

@@ -6,7 +6,7 @@ ghost use Rattle.kapi_manifests.specs.Made.{made};
 ghost use Rattle.kapi_manifests.specs.Standing.{object_told, standing_among, standing_namespaces, standing_objects};
 ghost use Rattle.kapi_manifests.specs.Written as written;
 ghost use Rattle.serde_json.specs.View.{view};
-ghost use Rattle.kapi_manifests.specs.Written.{AreNamed, AreOf, IsDangling, IsWritten, Loads, faults_in_all, objects_in_all};
+ghost use Rattle.kapi_manifests.specs.Written.{AreOf, IsDangling, IsWritten, Loads, faults_in_all, objects_in_all};
 ghost use Rattle.serde_json.specs.Data.{Data};
 
 use crate::dangling::{Dangling, dangling_bindings};
@@ -45,7 +45,7 @@ pub struct Prepared {
 
 /// The lines that files are.
 pub fn prepare(alloc: Global, options: Options<'_>, files: &[&[u8]]) -> Result<Prepared, Memory>
-    ensures loads { IfOk result (λ p. Loads options.entry.scope options.entry.namespace.now options.entry.defaults options.entry.words (map (λ text. text.now) files.now) p) }
+    ensures loads { IfOk result (λ p. Loads options.entry.scope options.entry.namespace.now options.entry.defaults (map (λ text. text.now) files.now) p) }
     ensures faults { IfOk result (λ p. length p.faults.items ≡ faults_in_all options.entry.scope options.entry.namespace.now (map (λ text. text.now) files.now)) }
 {
     let mut sorted = Sorted::new(alloc);
@@ -72,7 +72,7 @@ fn take_files(
 
 /// Writes the objects as lines.
 fn write(alloc: Global, options: Options<'_>, sorted: Sorted) -> Result<Prepared, Memory>
-    ensures { IfOk result (λ p. IsWritten options.entry.defaults options.entry.words sorted p) }
+    ensures { IfOk result (λ p. IsWritten options.entry.defaults sorted p) }
 {
     let Sorted {
         namespaces,
@@ -113,16 +113,13 @@ fn words_of(
     standing: &[Standing],
     namespaces: &[Manifest],
     objects: &[Manifest],
-) -> Result<Words, Memory>
-    ensures { (defaults : Bool) → map object_told standing.now ≡ standing_objects defaults
-        → IfOk result (λ w. AreNamed defaults wanted w.named.entries namespaces.now objects.now) }
-{
+) -> Result<Words, Memory> {
     let others = standing_beside(alloc, standing, &[])?;
     let mut words = Words::new(alloc);
     if wanted {
-        words.add(alloc, others.as_slice())?;
-        words.add(alloc, namespaces)?;
-        words.add(alloc, objects)?;
+        for manifest in others.iter().chain(namespaces.iter()).chain(objects.iter()) {
+            words.add(alloc, &manifest.object)?;
+        }
     }
     Ok(words)
 }

@@ -1,5 +1,5 @@
 -- The failures of a case that begins with manifests.
-use Rattle.std.specs.Prelude.{◌≡◌, ℕ, ◌+◌, ◌-◌, ◌==◌, nat_lt, true, false, if◌then◌else◌, List, [], ◌∷◌, ◌++◌, length, codes, Option, Some, None, Result, Ok, Err}
+use Rattle.std.specs.Prelude.{◌≡◌, ℕ, ◌+◌, ◌-◌, ◌==◌, nat_lt, true, if◌then◌else◌, List, [], ◌∷◌, ◌++◌, length, codes, Option, Some, None, Result, Ok, Err}
 use Rattle.std.specs.List.{find, flat_map, list_all}
 use Rattle.std.specs.Option.{unwrap_or}
 use Rattle.kapi_core.specs.Machine.{Machine, with_rechecks}
@@ -87,7 +87,7 @@ FailsBehind table loads c files p (f ∷ fs) failures = IsFaultAt loads files f.
 
 -- what is loaded of the files, and how many faults they have
 pub record IsRead (loads : List LoadedFile) (m : Manifests) (p : Prepared) : Type 0 where
-  pub loaded : Loads All [] m.defaults false (all_texts loads m.files) p
+  pub loaded : Loads All [] m.defaults (all_texts loads m.files) p
   pub faults : length p.faults.items ≡ faults_in_all All [] (all_texts loads m.files)
 
 -- the failures of a case that begins with what is loaded of the files

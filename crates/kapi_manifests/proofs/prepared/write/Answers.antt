@@ -4,7 +4,7 @@ use Rattle.kapi_manifests.specs.Dangling.{origin_of}
 use Rattle.kapi_manifests.specs.Files.{data_of}
 use Rattle.kapi_manifests.specs.Made.{made}
 use Rattle.kapi_manifests.specs.Standing.{object_told, standing_among, standing_objects}
-use Rattle.kapi_manifests.specs.Written.{AreNamed, AreOf, IsDangling, bindings_among, roles_among}
+use Rattle.kapi_manifests.specs.Written.{AreOf, IsDangling, bindings_among, roles_among}
 use Rattle.kapi_manifests.proofs.prepared.write.Goals as goal
 
 pub returns : goal.returns
@@ -18,8 +18,6 @@ returns c =
     let lines : AreOf c.in_ok-lines.lines all = rw (← c.as_slice-6.ensures.value, ← c.as_slice-7.ensures.value, ← standing) c.in_ok-lines.ensures in
     let dangling : IsDangling c.args.options.defaults (map origin_of c.in_ok-dangling.dangling.items) objects =
     rw (← c.as_slice-5.ensures.value) (c.in_ok-dangling.ensures _ standing) in
-    let named : AreNamed c.args.options.defaults c.args.options.words c.in_ok-words.words.named.entries c.args.sorted.namespaces.items objects =
-    rw (← c.as_slice-3.ensures.value, ← c.as_slice-4.ensures.value) (c.in_ok-words.ensures _ standing) in
     record {
       all = all;
       loaded = record { homes = homes; are_homes = c.in_ok-homes.ensures; all = refl };
@@ -29,5 +27,4 @@ returns c =
       roles = c.count_of-roles.ensures ∙ ap (λ ms. roles_among (map data_of ms)) c.as_slice.ensures.value;
       bindings = c.count_of-bindings.ensures ∙ ap (λ ms. bindings_among (map data_of ms)) c.as_slice-2.ensures.value;
       dangling = dangling;
-      named = named;
     }
