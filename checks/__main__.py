@@ -1,6 +1,7 @@
 """Runs the checks of a program. usage: python3 -m checks PROGRAM [NAME,NAME.. [WORD..]]     the quick ones that need python3 alone if none is named"""
 import importlib.util
 import pathlib
+import shutil
 import sys
 
 from tools.chosen import Module, main
@@ -13,6 +14,8 @@ CHECKS = {
     "reporting": Module(words=()),
     "kinds": Module(words=()),
     "live": Module(words=()),
+    "sockets": Module(words=()),
+    "mishaps": Module("cc", () if shutil.which("cc") else None),
     "rechecks": Module(words=()),
     "limits": Module(words=()),
     "missing": Module(words=("500",)),

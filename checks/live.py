@@ -1,16 +1,30 @@
 #!/usr/bin/env python3
-"""Changes the policy of a server while two clients of its answer port ask, and looks at what they are told.
+"""Changes the policy of a server while clients of its answer port ask, and looks at what they are told; and at when scripts and audits answer.
 
 usage: python3 -m checks.live PROGRAM
 
-A role is made (the first change) and then a binding of it made and deleted 50 times. After an even number of changes from 2 on ann is
-allowed, else denied; the number never falls on a connection, and is 101 in the end. The exit status is 1 where it is otherwise.
+A role is made (the first change) and then a binding of it made and deleted 100 times. After an even number of changes from 2 on ann is
+allowed, else denied; the number never falls on a connection, and is 201 in the end. Clients who go away amid a line, or before their answers, take
+no reader with them. A script's answer comes before its next line is read, and readers of an audit run at once. The exit status is 1 if it is
+otherwise.
 """
+import contextlib
+import os
+import pathlib
+import pty
+import select
+import socket
+import subprocess
 import sys
+import tempfile
 import threading
+import time
+import tty
 
-from tools.server import ANSWER, ROOT, Server, ask, connect
+from checks.sockets import SECONDS, reset, unread, until
+from tools.server import ANSWER, ROOT, Server, ask, connect, of_threads
 
+READERS, TIMES = 4, 100
 POLICY = "/apis/rbac.authorization.k8s.io/v1/namespaces/default"
 QUESTION = b'{"user":"ann","resourceAttributes":{"namespace":"default","verb":"get","resource":"pods"}}\n'
 ROLE = {"metadata": {"name": "r"}, "rules": [{"verbs": ["get"], "apiGroups": [""], "resources": ["pods"]}]}
@@ -25,7 +39,7 @@ def change(client, method, path, item=None):
 def change_often():
     client = connect(ROOT)
     change(client, "POST", "/roles", ROLE)
-    for _time in range(50):
+    for _time in range(TIMES):
         change(client, "POST", "/rolebindings", BINDING)
         change(client, "DELETE", "/rolebindings/b")
 
@@ -40,14 +54,62 @@ def question(told, is_over):
     told.append(lines.readline())
 
 
+def go_away():
+    """As many clients as there are readers go away amid a line, and as many before their answers."""
+    for text in (QUESTION[:20], QUESTION * 1_000):
+        clients = [connect(ANSWER) for _reader in range(READERS)]
+        for client in clients:
+            client.sendall(text)
+        for client in clients:
+            until(lambda: client.recv(1) if text.endswith(b"\n") else not unread(client))
+            reset(client)
+
+
 def is_right(told):
-    counts = [int(line.split()[0]) for line in told]
-    return counts == sorted(counts) and counts[-1] == 101 and all((" allowed " in line) == (n >= 2 and n % 2 == 0) for n, line in zip(counts, told))
+    counts = [int(line.split()[0]) for line in told if line[:1].isdigit()]
+    return len(counts) == len(told) > 0 and counts == sorted(counts) and counts[-1] == 2 * TIMES + 1 and all((" allowed " in line) == (n >= 2 and n % 2 == 0) for n, line in zip(counts, told))
+
+
+def script(program):
+    """Whether a script's answer comes before its next line is read; then the script cannot be read any more."""
+    ours, theirs = pty.openpty()
+    tty.setraw(theirs)
+    process, told = subprocess.Popen([program, "script"], stdin=ours, stdout=subprocess.PIPE, stderr=subprocess.PIPE), []
+    os.close(ours)
+    for line in (b"open a\n", b"turn\n"):
+        os.write(theirs, line)
+        select.select([process.stdout], [], [], SECONDS)
+        os.set_blocking(process.stdout.fileno(), False)
+        told.append(process.stdout.read())
+    os.close(theirs)
+    return (*told, *process.communicate(timeout=SECONDS), process.returncode) == (b"conn 0\n", b"none\n", b"", b"the script cannot be read\n", 1)
+
+
+def audit(program, room):
+    """Whether two threads of an audit went on between two looks, thrice; of one that takes some seconds, if shorter ones do not show it."""
+    (room / "policy").write_text("")
+    for power in range(5, 11):
+        (room / "questions").write_bytes(QUESTION * 4**power)
+        process = subprocess.Popen([program, "audit", "policy", "questions", "--readers", "2"], cwd=room, stdout=subprocess.DEVNULL)
+        before, times = {}, 0
+        while process.poll() is None and times < 3 and sum(before.values()) < 4e9:
+            time.sleep(0.005)
+            with contextlib.suppress(OSError):
+                now = of_threads(process)
+                times += sum(now[it] > before.get(it, now[it]) for it in now) > 1
+                before = now
+        process.kill()
+        process.wait()
+        if times == 3 or sum(before.values()) >= 4e9:
+            return times == 3
+    return False
 
 
 def main(program):
-    told, is_over = ([], []), threading.Event()
-    with Server(program, "--answer", str(ANSWER), "--readers", "2"):
+    socket.setdefaulttimeout(SECONDS)
+    told, is_over = [[] for _reader in range(READERS)], threading.Event()
+    with Server(program, "--answer", str(ANSWER), "--readers", str(READERS)):
+        go_away()
         clients = [threading.Thread(target=question, args=(each, is_over)) for each in told]
         for client in clients:
             client.start()
@@ -55,9 +117,13 @@ def main(program):
         is_over.set()
         for client in clients:
             client.join()
-    for each in told:
-        print(f"{len(each)} answers, {len({line.split()[0] for line in each})} numbers of changes:", "as it should be" if is_right(each) else "otherwise")
-    return 0 if all(is_right(each) for each in told) else 1
+    well = [is_right(each) for each in told]
+    for each, is_well in zip(told, well):
+        print(f"{len(each)} answers, {len({line.partition(' ')[0] for line in each})} numbers of changes:", "as it should be" if is_well else "otherwise")
+    with tempfile.TemporaryDirectory() as room:
+        well += [script(os.path.abspath(program)), audit(os.path.abspath(program), pathlib.Path(room))]
+    print("a script's answers come at once, and readers of an audit run at once:", "as it should be" if all(well[-2:]) else f"otherwise, {well[-2:]}")
+    return 0 if all(well) else 1
 
 
 if __name__ == "__main__":

@@ -93,7 +93,7 @@ def section(crate):
 
 def page():
     names = re.findall(r"^(\w+):", (ROOT / "crates.txt").read_text(), re.M)
-    return HEAD + "".join(section(CRATES / name) for name in names if not name.endswith("_tests"))
+    return HEAD + "".join(section(CRATES / name) for name in names)
 
 
 def definition(name):

@@ -39,6 +39,12 @@ def seconds_of(process):
     return [int(field) / os.sysconf("SC_CLK_TCK") for field in fields[11:13]]
 
 
+def of_threads(process):
+    """Nanoseconds of processor time of each thread of a process."""
+    tasks = pathlib.Path(f"/proc/{process.pid}/task")
+    return {it.name: int((it / "schedstat").read_text().split()[0]) for it in tasks.iterdir()}
+
+
 class Server:
     """A server of root's and ann's port, with options and the objects that it loads. It is killed at the end of its block."""
 
@@ -69,8 +75,7 @@ class Server:
 
     def precise(self):
         """The same of all threads, to the nanosecond."""
-        tasks = pathlib.Path(f"/proc/{self.process.pid}/task")
-        return sum(int((it / "schedstat").read_text().split()[0]) for it in tasks.iterdir()) / 1e9
+        return sum(of_threads(self.process).values()) / 1e9
 
 
 def connect(port):

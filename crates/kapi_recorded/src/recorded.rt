@@ -1,14 +1,20 @@
-//! Ports that report their history.
-ghost use Rattle.std.specs.Prelude.{◌≡◌, ◌++◌, [], ◌∷◌, false};
+//! Ports that report their history, and a server over them.
+ghost use Rattle.std.specs.Prelude.{◌≡◌, ◌++◌, [], ◌∷◌, List, false};
+ghost use Rattle.kapi_core.specs.Machine.{Machine};
+ghost use Rattle.kapi_core.specs.Refines.{Refines};
+ghost use Rattle.kapi_serve.specs.Account.{Account, Made};
+ghost use Rattle.kapi_serve.specs.Advances.{Runs};
 ghost use Rattle.kapi_serve.specs.Ports.{opened};
+ghost use Rattle.kapi_serve.specs.declared.port.Entry.{Entry as AnEntry};
 ghost use Rattle.kapi_serve.specs.declared.port.Entry.TheVariants as entry;
 
-use crate::fixture::{CREATE, FORBIDDEN, master, serve, user};
-use crate::memory::{Memory, Mishap};
-use kapi_serve::{Entry, PortEvent, PortFault, Ports};
+use kapi_core::Core;
+use kapi_desk::Desk;
+use kapi_policy::Policy;
+use kapi_serve::{Entry, PortEvent, PortFault, Ports, serve_loop};
 use kapi_text::{Sequence, TryCopy};
-use std::alloc::{AllocError, Global};
-use std::test::Fail;
+use std::alloc::Global;
+use std::sync::Wait;
 
 /// What calls on ports read and wrote, as long as there is memory for it.
 #[derive(Drop)]
@@ -115,38 +121,27 @@ impl<Q: Ports + Drop> Ports for Recorded<Q> {
         }
     }
 
+    fn retry(&mut self, slot: usize, refused: u32) -> Result<(), PortFault> {
+        self.ports.retry(slot, refused)
+    }
+
     fn end(&mut self, slot: usize) {
         self.ports.end(slot);
         self.notes.note(Entry::Ended(slot));
     }
 }
 
-/// The bytes that a slot accepted.
-fn taken(alloc: Global, kept: &Record, slot: usize) -> Result<Vec<u8>, AllocError> {
-    let mut bytes = Vec::new(alloc);
-    for entry in kept.entries.iter() {
-        if let Entry::Took(at, piece) = entry
-            && *at == slot
-        {
-            bytes.extend_from_slice(piece.as_slice())?;
-        }
-    }
-    Ok(bytes)
-}
-
-#[test]
-fn ports_tell_what_their_clients_got(rt: HostRuntime) -> Result<(), Fail> {
-    let alloc = rt.alloc();
-    let mut memory = Memory::new(alloc, (0, Mishap::OneByte));
-    memory.talk(master(alloc)?, CREATE)?;
-    memory.talk(user(alloc, "bob")?, FORBIDDEN)?;
-    let mut ports = Recorded::new(alloc, memory);
-    serve(alloc, &rt, &mut ports)?;
-    assert!(rt; !ports.notes.lost);
-    for slot in 0..2 {
-        let taken = taken(alloc, &ports.notes, slot)?;
-        assert!(rt; !taken.is_empty());
-        assert_eq!(rt; taken.as_slice(), ports.ports.got(slot));
-    }
-    Ok(())
+/// Serves the clients of any ports, and records what they sent and got: all of it is accounted for, as long as there is
+/// memory for the record.
+pub fn serve_recorded<R: Wait, P: Policy + Drop, Q: Ports + Drop>(
+    rt: &R,
+    core: &mut Core<P>,
+    desk: &mut Desk,
+    ports: &mut Recorded<Q>,
+)
+    requires { desk.old.waiting ≡ [] }
+    ensures account { (m : Machine) → Refines core.old m → ports.new.notes.lost ≡ false
+        → (entries : List AnEntry) × (made : List Made) × (ports.new.notes.entries.items ≡ ports.old.notes.entries.items ++ entries) × Runs core.old core.new made × Account entries made }
+{
+    serve_loop(rt, core, desk, ports)
 }
