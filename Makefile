@@ -33,11 +33,7 @@ quick: profile ## change: transcripts and quick checks in 4 to 7 minutes; no pro
 test: ## change: the gate: all proofs, tests, transcripts, quick checks
 	$(NEEDS_RT)
 	@rm -rf crates/*/out/rlib out/library
-	@rt ci
-	@sh tools/sources.sh > crates/kapi/out/proved
-	@if command -v cc > /dev/null && command -v objcopy > /dev/null; then sh tools/library.sh out/library; else echo 'The C library is left out: cc or objcopy is not there.'; fi
-	@$(PYTHON) -m checks $(PROVED)
-	@$(PYTHON) -m checks $(PROVED) edits
+	@$(PYTHON) -m tools.gate
 
 kapi: ## use: says where the proved program lies; without one, the gate
 	@sh tools/sources.sh | cmp -s - crates/kapi/out/proved && test -x $(PROVED) || $(MAKE) --no-print-directory test
