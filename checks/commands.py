@@ -208,6 +208,7 @@ def refused(user):
 ROOT, BINDING, SOME = "A=root,system:masters", "/apis/rbac.authorization.k8s.io/v1/namespaces/default/rolebindings/ms", re.compile("20[01] .*")
 CLOCK = re.compile(f'200 .*"resourceVersion":"({"|".join(str(int(time.time()) + it) for it in range(200))})[0-9]{{3}}05".*')
 ASKS, TOLD, OTHER = f'?{question("ann", "get", "configmaps", "default")}', "4 allowed RoleBinding ms, Role m, rule 0\n", question("bob", "get", "configmaps", "default")
+CLUSTER_ROLES = "/apis/rbac.authorization.k8s.io/v1/clusterroles"
 LOST = [("B", f"GET {MAPS}?watch=1", "200 "), ("A", f"DELETE {BINDING}", SOME), ("A", f"POST {MAPS} {MAP['a']}", SOME)]
 GROUPS = [(client, f"GET {MAPS.replace('configmaps', it)}", SOME if it in may else refused(user)) for it in ("configmaps", "secrets")
           for client, user, may in (("A", "ann", "configmaps"), ("B", "bob", ""), ("C", "bob", "configmaps"), ("D", "bob", "configmaps, secrets"), ("E", "bob", "secrets"))]
@@ -216,6 +217,8 @@ SERVERS = [Case(f"serve {words}", steps=steps) for words, steps in (
     (ROOT, [("A", f"GET {MAPS}", listed(5)), ("A", "elsewhere", "nobody")]),
     (f"--load maps {ROOT}", [("A", f"GET {MAPS}", listed(7, a=6, b=7))]),
     (f"--load map --answer Q {ROOT}", [("A", f"GET {MAPS}", listed(6, b=6)), ("Q", ASKS, "0 denied\n")]),
+    (f"--manifests may --with-defaults {ROOT} B=ann", [("B", f"GET {MAPS}", SOME), ("A", f"GET {BINDING}", SOME), ("A", f"GET {CLUSTER_ROLES}/view", SOME)]),
+    (f"--manifests folder --manifests homeless --namespace shop {ROOT}", [("A", f"GET {CLUSTER_ROLES}/seer", SOME), ("A", f"GET {CLUSTER_ROLES}/view", re.compile("404 .*"))]),
     (f"--first-revision 41 {ROOT}", [("A", f"GET {MAPS}", listed(46))]),
     (f"--load map --first-revision 4100 {ROOT}", [("A", f"GET {MAPS}", listed(4106, b=4106))]),
     (f"--first-revision clock {ROOT}", [("A", f"GET {MAPS}", CLOCK)]),
