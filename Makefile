@@ -30,7 +30,7 @@ quick: profile ## change: transcripts and quick checks in 4 to 7 minutes; no pro
 	@sh tools/unproved.sh
 	@$(PYTHON) -m checks $(TRIED)
 
-test: ## change: the gate: all proofs, tests, transcripts, quick checks
+test: ## change: the gate; from nothing 85 minutes on 4 processors, 110 on 2
 	$(NEEDS_RT)
 	@rm -rf crates/*/out/rlib out/library
 	@$(PYTHON) -m tools.gate
@@ -39,7 +39,7 @@ kapi: ## use: says where the proved program lies; without one, the gate
 	@sh tools/sources.sh | cmp -s - crates/kapi/out/proved && test -x $(PROVED) || $(MAKE) --no-print-directory test
 	@ls -l $(PROVED)
 
-install: kapi ## use: copies the proved program to PREFIX/bin (/usr/local)
+install: kapi ## use: the proved program to PREFIX/bin; proves it first (make test)
 	@install -D $(PROVED) $(PREFIX)/bin/kapi
 
 library: kapi ## use: installs the proved C library to PREFIX (docs/LIBRARY.md)
