@@ -76,7 +76,7 @@ def prove(times):
 
 
 def part(times, name, minutes, *words):
-    print(f"{name}: some {minutes} minutes.", flush=True)
+    print(f"{name}: {minutes} min or so.", flush=True)
     running = subprocess.Popen(words, cwd=ROOT)
     times.begin(running.pid, name)
     return running.wait()
@@ -93,8 +93,8 @@ def main():
             status = part(times, "C library", 3, "sh", "tools/library.sh", "out/library")
         else:
             print("The C library is left out: cc or objcopy is not there.")
-    status = status or part(times, "quick checks", 4, sys.executable, "-m", "checks", program)
-    status = status or part(times, "edits that the prover must refuse", 3, sys.executable, "-m", "checks", program, "edits")
+    status = status or part(times, "quick checks", 1, sys.executable, "-m", "checks", program)
+    status = status or part(times, "edits that the prover must refuse", 5, sys.executable, "-m", "checks", program, "edits")
     (ROOT / "out/times").write_text("\n".join(times.table()) + "\n")
     print(f"What each crate took is in out/times.\n{last}", flush=True)
     return status
