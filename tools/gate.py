@@ -59,18 +59,18 @@ class Progress:
 
 
 def prove(times):
-    """Runs `rt ci`; its status, and its last line."""
-    jobs, last = lanes(), ""
-    progress = Progress(jobs)
+    """Runs `rt ci` on all crates; its status, and its last line."""
+    jobs = lanes()
+    progress, last = Progress(jobs), ""
     print(f"Proves {len(progress.left)} crates, {jobs} at a time: about {10 + int(1.1 * progress.whole / jobs / 60)} minutes from nothing.", flush=True)
     running = subprocess.Popen(["rt", "ci"], cwd=ROOT, env={**os.environ, "RT_JOBS": str(jobs)}, stdout=subprocess.PIPE, stderr=subprocess.STDOUT, text=True, errors="replace")
     times.begin(running.pid)
     for line in running.stdout:
         if not QUIET.match(line):
             print(line, end="", flush=True)
-        proved = PROVED.match(line)
-        if proved:
-            print(f"  {progress.done(proved[1])}", flush=True)
+        crate = PROVED.match(line)
+        if crate and crate[1] in progress.left:
+            print(f"  {progress.done(crate[1])}", flush=True)
         last = line.strip() or last
     return running.wait(), last
 
