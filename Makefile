@@ -30,7 +30,7 @@ quick: profile ## change: transcripts and quick checks in 4 to 7 minutes; no pro
 	@sh tools/unproved.sh
 	@$(PYTHON) -m checks $(TRIED)
 
-test: ## change: the gate; from nothing 85 minutes on 4 processors, 110 on 2
+test: ## change: the gate; from nothing 87 minutes on 2 processors, fewer on 4
 	$(NEEDS_RT)
 	@rm -rf crates/*/out/rlib out/library
 	@$(PYTHON) -m tools.gate
@@ -39,8 +39,9 @@ kapi: ## use: says where the proved program lies; without one, the gate
 	@sh tools/sources.sh | cmp -s - crates/kapi/out/proved && test -x $(PROVED) || $(MAKE) --no-print-directory test
 	@ls -l $(PROVED)
 
-install: kapi ## use: the proved program to PREFIX/bin; proves it first (make test)
+install: kapi ## use: the proved program, and kapi-yaml, to PREFIX/bin; proves it first (make test)
 	@install -D $(PROVED) $(PREFIX)/bin/kapi
+	@install -D tools/policy.py $(PREFIX)/bin/kapi-yaml
 
 library: kapi ## use: installs the proved C library to PREFIX (docs/LIBRARY.md)
 	@sh tools/library.sh $(PREFIX)

@@ -1,6 +1,6 @@
 """Measures a real kube-apiserver that asks Kapi beside the same one in mode RBAC, with many ClusterRoleBindings. Wants wrk and python3-kubernetes.
 
-usage: python3 -m bench.cluster PROGRAM [BINDINGS]     KUBE_APISERVER and ETCD name the two programs (docs/CLUSTER.md builds them)
+usage: python3 -m bench PROGRAM cluster [BINDINGS]     KUBE_APISERVER and ETCD name the two programs (docs/CLUSTER.md builds them)
 """
 import os
 import pathlib
@@ -138,6 +138,8 @@ def measure(run, count):
 
 
 def main(program, bindings="5000"):
+    if not {"KUBE_APISERVER", "ETCD"} <= set(os.environ):
+        sys.exit("KUBE_APISERVER and ETCD must name the two programs (docs/CLUSTER.md)")
     with tempfile.TemporaryDirectory() as room:
         cluster = ApiServer(os.environ["KUBE_APISERVER"], os.environ["ETCD"], API, WEBHOOK)
         run = Run(program, cluster, room, 0)
@@ -154,9 +156,3 @@ def main(program, bindings="5000"):
         finally:
             run.mirror and run.mirror.end()
             cluster.end()
-
-
-if __name__ == "__main__":
-    if not {"KUBE_APISERVER", "ETCD"} <= set(os.environ):
-        sys.exit("KUBE_APISERVER and ETCD must name the two programs (docs/CLUSTER.md)")
-    sys.exit(main(*sys.argv[1:]))

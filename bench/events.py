@@ -1,7 +1,7 @@
 """Measures the program from outside: seconds of processor time for N and for 2N events or questions, what each of the second N takes, and
 how many times the second N takes what the first N took. Times that programs and other work share are noise; ratios tell more.
 
-usage: python3 -m bench.events PROGRAM [N]     N is a number of events, 10,000 if left out
+usage: python3 -m bench PROGRAM events [N]     N is a number of events, 10,000 if left out
 """
 import json
 import os
@@ -122,7 +122,3 @@ def main(program, count=10_000):
         tell(what, *[script_time(program, lines(number)) for number in (0, count, 2 * count)], count)
     for bindings in (10, 1_000, 10_000):
         tell(f"a question, {bindings} bindings", *[audit_time(program, bindings, number) for number in (0, 10 * count, 20 * count)], 10 * count)
-
-
-if __name__ == "__main__":
-    main(*sys.argv[1:])

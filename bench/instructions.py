@@ -1,6 +1,6 @@
 """Counts what a request costs a server: instructions of the processor, also by part, and allocations, by kind. Wants valgrind.
 
-usage: python3 -m bench.instructions PROGRAM..
+usage: python3 -m bench PROGRAM instructions..
 
 Each figure is the difference of a run of 1,024 requests more, in which watches are woken four times: of one connection, with
 eleven bindings. An event is what a put costs more for each of ten watches that see it. A part is that of samples.py, without
@@ -10,7 +10,6 @@ import collections
 import re
 import signal
 import subprocess
-import sys
 import tempfile
 
 from bench.load import MAPS, objects
@@ -115,7 +114,3 @@ def main(*programs):
             parts = for_each(instructions, program, kind)
             print(f"  {name}: {sum(parts.values()):,.0f} instructions, {for_each(allocations, program, kind)['allocations']:,.1f} allocations")
             print("   ", ", ".join(f"{part} {cost:,.0f}" for part, cost in parts.items() if cost >= 50), flush=True)
-
-
-if __name__ == "__main__":
-    main(*sys.argv[1:])

@@ -1,13 +1,12 @@
 """Measures the C library: processor time of a load and of a decision, by the number of bindings.
 
-usage: python3 -m bench.library PROGRAM [FOLDER]     the folder that `make library PREFIX=..` wrote, out/library if left out; needs cc
+usage: python3 -m bench PROGRAM library [FOLDER]     the folder that `make library PREFIX=..` wrote, out/library if left out; needs cc
 
 Each binding gives a user of its own a role: in one of 100 or 10 namespaces, or cluster-wide. Half of the questions are allowed. The program is not run.
 """
 import json
 import pathlib
 import subprocess
-import sys
 import tempfile
 
 from bench.policies import NAMESPACES, policy
@@ -67,7 +66,3 @@ def main(program, folder="out/library"):
             (used, load, memory), answers = run(made, *write(room, count, spaces), SECONDS)
             assert answers.count("1") == QUESTIONS / 2, answers
             print(f"{where(count, spaces)}: loaded in {load:,.1f} ms and {memory:,.0f} MB with the text, a decision in {used:.2f} us", flush=True)
-
-
-if __name__ == "__main__":
-    main(*sys.argv[1:])

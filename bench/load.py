@@ -1,6 +1,6 @@
 """Measures a server under load, and prints requests a second, processor times and resident memory. Wants wrk.
 
-usage: python3 -m bench.load PROGRAM     bench/echo.c is compiled and measured beside it
+usage: python3 -m bench PROGRAM load     bench/echo.c is compiled and measured beside it
 """
 import itertools
 import json
@@ -8,7 +8,6 @@ import pathlib
 import re
 import statistics
 import subprocess
-import sys
 import tempfile
 import threading
 import time
@@ -223,7 +222,3 @@ def main(program):
         (few, _brief), (many, long) = kept(program, make, 10_000), kept(program, make, 100_000)
         each = (many - few) * 1024 // 90_000
         print(f"10,000 and 100,000 {name}: {few:,} and {many:,} kB resident, {each:,} bytes each; {long / 100_000:.1f} us each to load")
-
-
-if __name__ == "__main__":
-    main(*sys.argv[1:])

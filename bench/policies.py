@@ -1,13 +1,12 @@
 """Measures the questions about whole policies: processor time and memory of `kapi compare`, `who` and `risks` over policies of many bindings.
 
-usage: python3 -m bench.policies PROGRAM [BINDINGS..]     10,000 and 100,000 bindings if none are named
+usage: python3 -m bench PROGRAM policies [BINDINGS..]     10,000 and 100,000 bindings if none are named
 
 Each binding gives a user of its own a role in one of 100 namespaces. The policy after has ten bindings more, of users who hold nothing.
 """
 import json
 import os
 import pathlib
-import sys
 import tempfile
 
 NAMESPACES, CHANGED, QUESTIONS = 100, 10, 100
@@ -69,7 +68,3 @@ def main(program, *counts):
     with tempfile.TemporaryDirectory() as room:
         for count in counts or ("10000", "100000"):
             measure(os.path.abspath(program), int(count), pathlib.Path(room))
-
-
-if __name__ == "__main__":
-    main(*sys.argv[1:])

@@ -1,6 +1,6 @@
 """Tells in which parts of a server the processor time of a request goes, by samples. Wants perf and wrk.
 
-usage: python3 -m bench.samples PROGRAM
+usage: python3 -m bench PROGRAM samples
 
 The system's part is that of all that is not the program and its C library; a crate's is that of its functions, with what the compiler
 put into them of others.
@@ -8,7 +8,6 @@ put into them of others.
 import collections
 import re
 import subprocess
-import sys
 import tempfile
 import threading
 
@@ -51,7 +50,3 @@ def main(program):
     for kind in KINDS:
         told = parts(program, kind)
         print(f"{kind}:", ", ".join(f"{part} {share:.1f}" for part, share in told if share >= 0.5), flush=True)
-
-
-if __name__ == "__main__":
-    main(*sys.argv[1:])

@@ -1,6 +1,6 @@
 """Runs tools/mirror.py between an API server and Kapi, ends and starts each part in each order, and looks whether anybody is let in or kept out wrongly.
 
-usage: python3 -m checks.cluster PROGRAM [CHANGES]     needs python3-kubernetes and setpriv
+usage: python3 -m checks PROGRAM cluster [CHANGES]     needs python3-kubernetes and setpriv
 
 With KUBE_APISERVER and ETCD, the paths of the two programs, the API server is a real one (checks/api_server.py), else the stand-in of
 checks/stand_in.py. While the steps run, bob, who may list pods, eve, who may not, and a member of system:masters ask the API server without pause:
@@ -471,7 +471,3 @@ def main(program, changes="10000"):
         finally:
             run.mirror and run.mirror.end()
             cluster.end()
-
-
-if __name__ == "__main__":
-    sys.exit(main(*sys.argv[1:]))

@@ -1,59 +1,49 @@
 """Each program by its real command, with each option and without it: its output and status, and of a server what its clients are answered.
 
-usage: python3 -m checks.commands PROGRAM     prints each case that is otherwise on a line, and ends with status 1 if there is one
+usage: python3 -m checks PROGRAM commands     prints each case that is otherwise on a line, and ends with status 1 if there is one
 
 Faults of the words and of files, and what is told on standard error, are looked at in checks/statuses.py.
 """
-import collections
 import contextlib
 import functools
 import json
-import os
-import pathlib
 import re
 import select
 import socket
 import subprocess
-import sys
-import tempfile
 import time
-from concurrent.futures import ThreadPoolExecutor
 
+from checks.harness import Case, bound, compact, commands, differs, lines, room, rule, thing
 from tools.server import Client, free
-
-text_of = functools.partial(json.dumps, separators=(",", ":"))
 
 
 def item(kind, place, **members):
     """An object as a line; its place is NAME or NAMESPACE/NAME."""
     namespace, _slash, name = place.rpartition("/")
-    metadata = {"name": name, "namespace": namespace} if namespace else {"name": name}
-    return text_of({"apiVersion": "rbac.authorization.k8s.io/v1" if "Role" in kind else "v1", "kind": kind, "metadata": metadata, **members}) + "\n"
+    return lines(thing(kind, name, namespace, **members))
 
 
-def role(kind, place, verbs, resource, *names):
-    return item(kind, place, rules=[{"apiGroups": [""], "resources": [resource], "verbs": verbs.split(","), "resourceNames": names}])
+def role(kind, place, verbs, resource, *names, group=""):
+    return item(kind, place, rules=[rule(verbs, resource, group, names)])
 
 
-def bound(kind, place, *named):
-    """A binding of the role KIND NAME to each subject KIND NAME behind it."""
-    whom, *subjects = [dict(zip(("kind", "name"), it.split())) for it in named]
-    return item(kind, place, roleRef=whom, subjects=subjects)
+def binding(kind, place, of, *subjects):
+    return item(kind, place, **bound(of, *subjects))
 
 
 def question(user, verb, resource, namespace="shop"):
-    return text_of({"user": user, "resourceAttributes": {"namespace": namespace, "verb": verb, "resource": resource}}) + "\n"
+    return compact({"user": user, "resourceAttributes": {"namespace": namespace, "verb": verb, "resource": resource}}) + "\n"
 
 
 # The last line of some files has no end.
-SEER = role("ClusterRole", "seer", "get", "nodes") + bound("ClusterRoleBinding", "seers", "ClusterRole seer", "Group system:authenticated")
-READER, READERS = role("Role", "shop/reader", "get,delete", "pods"), bound("RoleBinding", "shop/readers", "Role reader", "User ann")
+SEER = role("ClusterRole", "seer", "get", "nodes") + binding("ClusterRoleBinding", "seers", "ClusterRole seer", "Group system:authenticated")
+READER, READERS = role("Role", "shop/reader", "get delete", "pods"), binding("RoleBinding", "shop/readers", "Role reader", "User ann")
 BEFORE = item("Namespace", "shop") + SEER + READER + READERS
-AFTER = BEFORE.replace("delete", "list") + bound("ClusterRoleBinding", "olga-sees", "ClusterRole seer", "User olga")
-ACTORS = role("Role", "actor", "impersonate", "users") + bound("RoleBinding", "actors", "Role actor", "User bob")
-TWO = [{"apiGroups": [""], "resources": ["pods"], "verbs": it} for it in (["get"], ["get", "list"])]
-DANGLES = item("ServiceAccount", "shop/till") + role("Role", "shop/idle", "get", "pods") + item("Role", "shop/two", rules=TWO) + bound("RoleBinding", "shop/twos", "Role two", "ServiceAccount robot") \
-    + role("ClusterRole", "typo", "get", "podz") + bound("ClusterRoleBinding", "typos", "ClusterRole typo", "User ann")
+AFTER = BEFORE.replace("delete", "list") + binding("ClusterRoleBinding", "olga-sees", "ClusterRole seer", "User olga")
+ACTORS = role("Role", "actor", "impersonate", "users") + binding("RoleBinding", "actors", "Role actor", "User bob")
+TWO = [rule(it, "pods") for it in ("get", "get list")]
+DANGLES = item("ServiceAccount", "shop/till") + role("Role", "shop/idle", "get", "pods") + item("Role", "shop/two", rules=TWO) + binding("RoleBinding", "shop/twos", "Role two", "ServiceAccount robot") \
+    + role("ClusterRole", "typo", "get", "podz") + binding("ClusterRoleBinding", "typos", "ClusterRole typo", "User ann")
 QUESTIONS = question("ann", "list", "pods") + question("ann", "delete", "pods") + question("bob", "get", "pods") + question("ann", "get", "pods").rstrip()
 MAPS, MAP = "/api/v1/namespaces/default/configmaps", {it: item("ConfigMap", f"default/{it}", data={"k": it}) for it in "ab"}
 
@@ -61,7 +51,7 @@ MAPS, MAP = "/api/v1/namespaces/default/configmaps", {it: item("ConfigMap", f"de
 def event(user, verb, decision, name="", resource="pods"):
     """An event of an audit log."""
     reference = {"resource": resource, "namespace": "shop", "name": name, "apiVersion": "v1"}
-    return text_of({"kind": "Event", "apiVersion": "audit.k8s.io/v1", "stage": "ResponseComplete", "verb": verb, "requestURI": "/", "user": {"username": user, "groups": ["system:authenticated"]},
+    return compact({"kind": "Event", "apiVersion": "audit.k8s.io/v1", "stage": "ResponseComplete", "verb": verb, "requestURI": "/", "user": {"username": user, "groups": ["system:authenticated"]},
                     "objectRef": reference, "annotations": {"authorization.k8s.io/decision": decision}}) + "\n"
 
 
@@ -69,23 +59,25 @@ LOG = event("ann", "list", "allow") + event("ann", "create", "allow", "made") + 
 FILES = {
     "dangling": DANGLES, "logged": LOG,
     "before": BEFORE, "after": AFTER, "questions": QUESTIONS, "asked": "list pods shop\nget pods shop", "others": "get nodes *\n",
-    "doubtful": AFTER + bound("RoleBinding", "shop/viewers", "ClusterRole view", "User ann"),
-    "tills": BEFORE + bound("ClusterRoleBinding", "accounts", "ClusterRole seer", "Group system:serviceaccounts:shop") + bound("RoleBinding", "shop/more", "Role reader", "User bob"),
-    "owned": role("ClusterRole", "owner", "*", "configmaps") + bound("ClusterRoleBinding", "owners", "ClusterRole owner", "User ann")
-    + role("ClusterRole", "scopes", "impersonate", "userextras/scopes").replace('apiGroups":[""]', 'apiGroups":["authentication.k8s.io"]')
-    + bound("ClusterRoleBinding", "scoped", "ClusterRole scopes", "User bob"),
-    "homeless": ACTORS, "more": ACTORS + bound("RoleBinding", "others", "Role actor", "User eve"),
+    "doubtful": AFTER + binding("RoleBinding", "shop/viewers", "ClusterRole view", "User ann"),
+    "tills": BEFORE + binding("ClusterRoleBinding", "accounts", "ClusterRole seer", "Group system:serviceaccounts:shop") + binding("RoleBinding", "shop/more", "Role reader", "User bob"),
+    "owned": role("ClusterRole", "owner", "*", "configmaps") + binding("ClusterRoleBinding", "owners", "ClusterRole owner", "User ann")
+    + role("ClusterRole", "scopes", "impersonate", "userextras/scopes", group="authentication.k8s.io")
+    + binding("ClusterRoleBinding", "scoped", "ClusterRole scopes", "User bob"),
+    "homeless": ACTORS, "more": ACTORS + binding("RoleBinding", "others", "Role actor", "User eve"),
     "named": role("Role", "shop/reader", "get", "pods", "a") + READERS.rstrip(), "map": MAP["b"], "maps": MAP["a"] + MAP["b"].rstrip(),
-    "folder/1.json": text_of({"kind": "List", "items": [json.loads(it) for it in SEER.splitlines()]}),
-    "folder/2.jsonl": READER.rstrip(), "folder/3.jsonl": READERS.rstrip(), "folder/notes.txt": "not read",
+    "folder/1.json": compact({"kind": "List", "items": [json.loads(it) for it in SEER.splitlines()]}),
+    "folder/2.jsonl": READER.rstrip(), "folder/3.jsonl": READERS.rstrip(), "folder/.notes": "not read",
     "one": f"load map\nas root,system:masters\nGET {MAPS}/a\n= 404\nGET /healthz\n> ?\n",
     "two": f"load maps\nas root,system:masters\nGET {MAPS}/a\n= 200\nGET {MAPS}/b\n= 200\nGET /healthz\n= 403",
-    "may": role("Role", "default/m", "get,list,watch", "configmaps") + bound("RoleBinding", "default/ms", "Role m", "User ann", "Group dev")
-    + role("Role", "default/s", "list", "secrets") + bound("RoleBinding", "default/ss", "Role s", "Group ops").rstrip(),
+    "may": role("Role", "default/m", "get list watch", "configmaps") + binding("RoleBinding", "default/ms", "Role m", "User ann", "Group dev")
+    + role("Role", "default/s", "list", "secrets") + binding("RoleBinding", "default/ss", "Role s", "Group ops").rstrip(),
 }
-# The words of a command, what it prints, its status, and its standard input. Of a server A to P are ports and Q is that of answers, and it has
-# steps of clients: a client's name, which begins with its port, what it does, and what comes.
-Case = collections.namedtuple("Case", "words told status input steps", defaults=("", 0, "", ()))
+
+
+def case(words, told="", status=0, given=""):
+    """A command, what it prints, its status, and its standard input."""
+    return Case(words, int(status), None, told, given)
 
 
 def table(*rows):
@@ -101,7 +93,6 @@ rights = functools.partial(table, "VERBS | RESOURCES | NAMES | SCOPE | BY", BASI
 ways = functools.partial(table, "SUBJECT | NAMESPACE | BINDING | RULE", "Group system:masters | * | - | everything")
 SEEN, READ = "get | nodes | - | * | ClusterRoleBinding seers, ClusterRole seer, rule 0", "get,delete | pods | - | shop | RoleBinding readers, Role reader, rule 0"
 OWNED = "get | nodes | - | * | ClusterRoleBinding accounts, ClusterRole seer, rule 0; ClusterRoleBinding seers, ClusterRole seer, rule 0"
-MASTER = "* | * | - | * | Group system:masters"
 LIST, DELETE = (f"User ann | shop | {verb} pods | RoleBinding readers, Role reader, rule 0" for verb in ("list", "delete"))
 OLGA = "User olga | * | get nodes | ClusterRoleBinding olga-sees, ClusterRole seer, rule 0"
 EVE = "User eve | {} | ! impersonate users | RoleBinding others, Role actor, rule 0"
@@ -122,75 +113,76 @@ ALLOWED = "allowed RoleBinding readers, Role reader, rule 0\n"
 HEALTHY = r"out HTTP/1.1 200 OK\r\nContent-Type: text/plain\r\nContent-Length: 2\r\n\r\nok"
 ONE, TWO = (f"{place}\n  asked  GET /healthz\n  wanted {wanted}\n  got    {HEALTHY}\n  why    allowed by group system:masters\n{place[:3]}: {answers} checks, 1 not as wanted\n"
             for place, wanted, answers in (("one:6", "> ?", 2), ("two:8", "= 403", 3)))
-DANGLING = "dangling:2: Role shop/idle: nothing binds it\ndangling:3: Role shop/two: rule 1 covers rule 0\n" \
-    "dangling:4: RoleBinding shop/twos: there is no ServiceAccount shop/robot\ndangling:5: ClusterRole typo: rule 0: no kind serves the resource podz\n"
+found = functools.partial(table, "WHERE | FINDING")
+DANGLING = found("dangling:2 | Role shop/idle: nothing binds it", "dangling:3 | Role shop/two: rule 1 covers rule 0",
+                 "dangling:4 | RoleBinding shop/twos: there is no ServiceAccount shop/robot", "dangling:5 | ClusterRole typo: rule 0: no kind serves the resource podz")
 
 
 def suggested(*places):
     """The objects that are suggested for rules of users in the namespace shop."""
     text = ""
     for number, (user, verbs) in enumerate(places, 1):
-        place = f"shop/suggested-{number}"
-        parts = [item("Role", place, rules=[{"apiGroups": [""], "resources": ["pods"], "verbs": verbs.split(",")}]), item("RoleBinding", place, roleRef=REFERENCE | {"name": f"suggested-{number}"}, subjects=[SUBJECT | {"name": user}])]
-        text += "".join(text_of(json.loads(it)) + "\n" for it in (json.dumps(json.loads(part), sort_keys=True) for part in parts))
+        name = f"suggested-{number}"
+        whole = thing("Role", name, "shop", rules=[rule(verbs, "pods")]), thing("RoleBinding", name, "shop", **bound(f"Role {name}", f"User {user}"))
+        text += "".join(json.dumps(it, sort_keys=True, separators=(",", ":")) + "\n" for it in whole)
     return text
 
 
-REFERENCE, SUBJECT = {"apiGroup": "rbac.authorization.k8s.io", "kind": "Role"}, {"apiGroup": "rbac.authorization.k8s.io", "kind": "User"}
-SUGGESTED, SUGGESTED_AFTER, LOGGED = suggested(("ann", "list,delete,get"), ("bob", "get")), suggested(("ann", "list,get")), suggested(("ann", "list,create"))
-AUDITED = "line 2: the log allowed, the policy refuses: User ann: create pods in namespace shop\nline 4: the log refused, the policy allows: User ann: get pods named web in namespace shop\n" \
-    "refused 1 times: User ann: create pods in namespace shop\nrefused 1 times: User bob: get pods named web in namespace shop\n"
+SUGGESTED, SUGGESTED_AFTER, LOGGED = suggested(("ann", "list delete get"), ("bob", "get")), suggested(("ann", "list get")), suggested(("ann", "list create"))
+AUDITED = table("LINE | LOG | POLICY | REQUEST", "2 | allowed | denied | User ann: create pods in namespace shop", "4 | denied | allowed | User ann: get pods named web in namespace shop") \
+    + "\n" + table("TIMES | DENIED", "1 | User ann: create pods in namespace shop", "1 | User bob: get pods named web in namespace shop")
 CASES = [
-    *[Case(it, "kapi 0.1.0\n") for it in ("--version", "-V")], Case("script"),
-    Case("script", f"conn 0\nok\n{HEALTHY}\n", input="open root,system:masters\nfeed 0 GET /healthz HTTP/1.1\\r\\nHost: a\\r\\n\\r\\n\nserve 0"),
-    *[Case(f"audit before questions {it}", f"denied\n{ALLOWED}denied\n{ALLOWED}") for it in ("", "--readers 1", "--readers 16")],
-    *[Case(f"audit {it}", f"{ALLOWED}denied\ndenied\n{ALLOWED}", 0, given) for it, given in (("after /dev/stdin", QUESTIONS), ("/dev/stdin questions", AFTER.rstrip()))],
-    *[Case(f"compare {it} after", gains(OLGA, LIST), 3, BEFORE.rstrip()) for it in ("before", "-", "folder")],
-    *[Case(f"compare after {it}", gains(DELETE), 3, BEFORE.rstrip()) for it in ("before", "-")],
-    Case("compare --json before after", f'{{"atom":["get","","nodes"],{BY_OLGA}{{"atom":["list","","pods"],{BY}', 3),
-    Case("compare --usual-groups before after", gains(LIST), 3),
-    Case("compare --usual-groups --json before doubtful", f'{{"atom":["list","","pods"],{BY}', 3),
-    *[Case(f"compare {it}", gains(OLGA, LIST), status) for it, status in (("before doubtful", 3), ("--strict before after", 3), ("--strict before doubtful", 1))],
-    Case("compare --strict doubtful before", gains(DELETE), 1),
-    Case("compare --strict after after", "Nobody gains.\n"),
-    Case("compare --atoms before after", gains(*ATOMS), 3), Case("compare --lost before after", gains(DELETE), 3),
-    Case("compare --lost --atoms after before", gains(*ATOMS), 3),
-    Case("compare --format markdown before after", "| SUBJECT | NAMESPACE | GAINS | BY |\n|---|---|---|---|\n" + "".join(f"| {it} |\n" for it in (OLGA, LIST)), 3),
-    Case("compare --format table before after", gains(OLGA, LIST), 3), Case("compare --format text before after", "", 2),
-    *[Case(it, "", 1) for it in ("compare homeless more", "who homeless impersonate users", "risks homeless")],
-    *[Case(f"compare homeless more --namespace {it}", gains(EVE.format(it)), 3) for it in ("shop", "web")],
-    *[Case(f"who after list pods {it}", ways(*[ANN] * (it in ("", "--namespace shop")))) for it in ("", "--namespace shop", "--namespace web", "--cluster")],
-    Case("who after list po --namespace shop", ways(ANN)), Case("who after list pods --namespace shop --cluster", "", 2),
-    *[Case(f"who after list pods --namespace shop {it}", f"{JSON}{{{BY}") for it in ("--json", "--strict --json")],
-    *[Case(f"who doubtful get nodes {it}", ways(*SEES), it == "--strict") for it in ("", "--strict")],
-    *[Case(f"who homeless impersonate users --namespace {it}", ways(BOB.format(it))) for it in ("shop", "web")],
-    *[Case(f"who named get pods --namespace shop {it}", ways(*[ANN] * (it == "--name a"))) for it in ("", "--name a", "--name b")],
-    Case("who before --questions asked", f"line 1: list pods shop\n{ways()}line 2: get pods shop\n{ways(ANN)}"),
-    *[Case(f"who doubtful --questions others {it}", f"line 1: get nodes *\n{ways(*SEES)}", it == "--strict") for it in ("", "--strict")],
-    Case("who before --questions /dev/stdin --json", f'{{"line":1}}\n{JSON}{{{BY}', input="get pods shop"),
-    Case("who - get pods --namespace shop", ways(ANN), input=BEFORE.rstrip()),
-    Case("who folder delete pods --namespace shop", ways(ANN)),
-    *[Case(f"what {it}", rights(SEEN, READ)) for it in ("before ann", "before ann dev", "before ann --namespace shop", "folder ann --strict")],
-    *[Case(f"what before {it}", rights(SEEN)) for it in ("bob", "ann --namespace web", "bob dev --namespace shop")],
-    Case("what before system:anonymous", "Nothing is allowed.\n"), Case("what - ann", rights(SEEN, READ), input=BEFORE.rstrip()),
-    *[Case(f"what tills system:serviceaccount:{it}", rights(told)) for it, told in (("shop:till", OWNED), ("web:till", SEEN))],
-    Case("what before ann --namespace shop --json", WHAT_JSON), Case("what doubtful ann --strict", rights(SEEN, READ.replace("delete", "list")), 1),
-    *[Case(f"risks homeless --namespace {it}", ways(BOB.format(it)) + NOTHING) for it in ("shop", "web")],
-    Case("risks homeless --namespace shop --json", JSON + "{" + BY.replace("reader", "actor").replace("ann", "bob") + '{"settled":true}\n'),
-    *[Case(f"risks {it}", ways() + NOTHING, it == "doubtful --strict") for it in ("doubtful", "doubtful --strict", "after --strict", "folder")],
-    *[Case(f"check {it}", "", 0) for it in ("before", "folder")],
-    Case("check doubtful", "doubtful:7: RoleBinding shop/viewers: ClusterRole view is not in the policy: it gives nothing\n", 3),
-    Case("check dangling", DANGLING, 3),
-    Case("check --json doubtful", '{"file":"doubtful","finding":"RoleBinding shop/viewers: ClusterRole view is not in the policy: it gives nothing","line":7}\n', 3),
-    Case("suggest questions", SUGGESTED), Case("suggest --policy after questions", SUGGESTED_AFTER),
-    Case("suggest --log logged", LOGGED), Case("suggest before", "", 1),
-    *[Case(f"audit {it} after logged --log", AUDITED, 3) for it in ("", "--manifests")],
-    Case("audit --json before questions", '{"allowed":false}\n{"allowed":true,"reason":"RoleBinding readers, Role reader, rule 0"}\n' * 2),
-    Case("risks owned", ways("User bob | * | ClusterRoleBinding scoped | ClusterRole scopes, rule 0") + NOTHING),
-    Case("risks - --namespace shop", ways(BOB.format("shop")) + NOTHING, input=ACTORS.rstrip()),
-    *[Case(f"replay {words}", told, 1) for words, told in (("one", ONE), ("one two", ONE + TWO), ("two one", TWO + ONE))],
-    Case("replay /dev/stdin", "/dev/stdin: 2 checks\n", input=FILES["two"].partition("GET /healthz")[0].rstrip()),
-    Case("replay --write one two", f"{FILES['one'][:-2]}{HEALTHY}\n{FILES['two'][:-5]}= 200", 1),
+    *[case(it, "kapi 0.1.0\n") for it in ("--version", "-V")], case("script"),
+    case("script", f"conn 0\nok\n{HEALTHY}\n", given="open root,system:masters\nfeed 0 GET /healthz HTTP/1.1\\r\\nHost: a\\r\\n\\r\\n\nserve 0"),
+    *[case(f"audit before questions {it}", f"denied\n{ALLOWED}denied\n{ALLOWED}") for it in ("", "--readers 1", "--readers 16")],
+    *[case(f"audit {it}", f"{ALLOWED}denied\ndenied\n{ALLOWED}", 0, given) for it, given in (("after /dev/stdin", QUESTIONS), ("/dev/stdin questions", AFTER.rstrip()))],
+    *[case(f"compare {it} after", gains(OLGA, LIST), 3, BEFORE.rstrip()) for it in ("before", "-", "folder")],
+    *[case(f"compare after {it}", gains(DELETE), 3, BEFORE.rstrip()) for it in ("before", "-")],
+    case("compare --json before after", f'{{"atom":["get","","nodes"],{BY_OLGA}{{"atom":["list","","pods"],{BY}', 3),
+    case("compare --usual-groups before after", gains(LIST), 3),
+    case("compare --usual-groups --json before doubtful", f'{{"atom":["list","","pods"],{BY}', 3),
+    *[case(f"compare {it}", gains(OLGA, LIST), status) for it, status in (("before doubtful", 3), ("--strict before after", 3), ("--strict before doubtful", 1))],
+    case("compare --strict doubtful before", gains(DELETE), 1),
+    case("compare --strict after after", "Nobody gains.\n"),
+    case("compare --atoms before after", gains(*ATOMS), 3), case("compare --lost before after", gains(DELETE), 3),
+    case("compare --lost --atoms after before", gains(*ATOMS), 3),
+    case("compare --format markdown before after", "| SUBJECT | NAMESPACE | GAINS | BY |\n|---|---|---|---|\n" + "".join(f"| {it} |\n" for it in (OLGA, LIST)), 3),
+    case("compare --format table before after", gains(OLGA, LIST), 3), case("compare --format text before after", "", 2),
+    *[case(it, "", 1) for it in ("compare homeless more", "who homeless impersonate users", "risks homeless")],
+    *[case(f"compare homeless more --namespace {it}", gains(EVE.format(it)), 3) for it in ("shop", "web")],
+    *[case(f"who after list pods {it}", ways(*[ANN] * (it in ("", "--namespace shop")))) for it in ("", "--namespace shop", "--namespace web", "--cluster")],
+    case("who after list po --namespace shop", ways(ANN)), case("who after list pods --namespace shop --cluster", "", 2),
+    *[case(f"who after list pods --namespace shop {it}", f"{JSON}{{{BY}") for it in ("--json", "--strict --json")],
+    *[case(f"who doubtful get nodes {it}", ways(*SEES), it == "--strict") for it in ("", "--strict")],
+    *[case(f"who homeless impersonate users --namespace {it}", ways(BOB.format(it))) for it in ("shop", "web")],
+    *[case(f"who named get pods --namespace shop {it}", ways(*[ANN] * (it == "--name a"))) for it in ("", "--name a", "--name b")],
+    case("who before --questions asked", f"line 1: list pods shop\n{ways()}line 2: get pods shop\n{ways(ANN)}"),
+    *[case(f"who doubtful --questions others {it}", f"line 1: get nodes *\n{ways(*SEES)}", it == "--strict") for it in ("", "--strict")],
+    case("who before --questions /dev/stdin --json", f'{{"line":1}}\n{JSON}{{{BY}', given="get pods shop"),
+    case("who - get pods --namespace shop", ways(ANN), given=BEFORE.rstrip()),
+    case("who folder delete pods --namespace shop", ways(ANN)),
+    *[case(f"what {it}", rights(SEEN, READ)) for it in ("before ann", "before ann dev", "before ann --namespace shop", "folder ann --strict")],
+    *[case(f"what before {it}", rights(SEEN)) for it in ("bob", "ann --namespace web", "bob dev --namespace shop")],
+    case("what before system:anonymous", "Nothing is allowed.\n"), case("what - ann", rights(SEEN, READ), given=BEFORE.rstrip()),
+    *[case(f"what tills system:serviceaccount:{it}", rights(told)) for it, told in (("shop:till", OWNED), ("web:till", SEEN))],
+    case("what before ann --namespace shop --json", WHAT_JSON), case("what doubtful ann --strict", rights(SEEN, READ.replace("delete", "list")), 1),
+    *[case(f"risks homeless --namespace {it}", ways(BOB.format(it)) + NOTHING) for it in ("shop", "web")],
+    case("risks homeless --namespace shop --json", JSON + "{" + BY.replace("reader", "actor").replace("ann", "bob") + '{"settled":true}\n'),
+    *[case(f"risks {it}", ways() + NOTHING, it == "doubtful --strict") for it in ("doubtful", "doubtful --strict", "after --strict", "folder")],
+    *[case(f"check {it}", "Nothing dangles.\n", 0) for it in ("before", "folder")],
+    case("check doubtful", found("doubtful:7 | RoleBinding shop/viewers: ClusterRole view is not in the policy: it gives nothing"), 3),
+    case("check doubtful --format markdown", "| WHERE | FINDING |\n|---|---|\n| doubtful\\:7 | RoleBinding shop/viewers\\: ClusterRole view is not in the policy\\: it gives nothing |\n", 3),
+    case("check dangling", DANGLING, 3),
+    case("check --json doubtful", '{"file":"doubtful","finding":"RoleBinding shop/viewers: ClusterRole view is not in the policy: it gives nothing","line":7}\n', 3),
+    case("suggest questions", SUGGESTED), case("suggest --policy after questions", SUGGESTED_AFTER),
+    case("suggest --log logged", LOGGED), case("suggest before", "", 1),
+    *[case(f"audit {it} after logged --log", AUDITED, 3) for it in ("", "--manifests")],
+    case("audit --json before questions", '{"allowed":false}\n{"allowed":true,"reason":"RoleBinding readers, Role reader, rule 0"}\n' * 2),
+    case("risks owned", ways("User bob | * | ClusterRoleBinding scoped | ClusterRole scopes, rule 0") + NOTHING),
+    case("risks - --namespace shop", ways(BOB.format("shop")) + NOTHING, given=ACTORS.rstrip()),
+    *[case(f"replay {words}", told, 1) for words, told in (("one", ONE), ("one two", ONE + TWO), ("two one", TWO + ONE))],
+    case("replay /dev/stdin", "/dev/stdin: 2 checks\n", given=FILES["two"].partition("GET /healthz")[0].rstrip()),
+    case("replay --write one two", f"{FILES['one'][:-2]}{HEALTHY}\n{FILES['two'][:-5]}= 200", 1),
 ]
 
 
@@ -198,7 +190,7 @@ def listed(revision, **revisions):
     """The list of the ConfigMaps of these names, at the revision of each."""
     places = {name: {"name": name, "namespace": "default", "resourceVersion": str(at), "uid": f"00000000-0000-4000-8000-{at:012x}"} for name, at in revisions.items()}
     maps = [{"apiVersion": "v1", "data": {"k": name}, "kind": "ConfigMap", "metadata": place} for name, place in places.items()]
-    return "200 " + text_of({"apiVersion": "v1", "items": maps, "kind": "ConfigMapList", "metadata": {"resourceVersion": str(revision)}})
+    return "200 " + compact({"apiVersion": "v1", "items": maps, "kind": "ConfigMapList", "metadata": {"resourceVersion": str(revision)}})
 
 
 def refused(user):
@@ -213,7 +205,12 @@ LOST = [("B", f"GET {MAPS}?watch=1", "200 "), ("A", f"DELETE {BINDING}", SOME), 
 GROUPS = [(client, f"GET {MAPS.replace('configmaps', it)}", SOME if it in may else refused(user)) for it in ("configmaps", "secrets")
           for client, user, may in (("A", "ann", "configmaps"), ("B", "bob", ""), ("C", "bob", "configmaps"), ("D", "bob", "configmaps, secrets"), ("E", "bob", "secrets"))]
 ONE_MORE = [("Q", ASKS, ""), ("Q", "wait", "nothing"), ("Q0", "end", ""), ("Q", "?", TOLD)]
-SERVERS = [Case(f"serve {words}", steps=steps) for words, steps in (
+# With ten revisions left, of which the opening takes five, three are made; two can go, one after the other.
+FEW = [*[(f"POST {MAPS} {item('ConfigMap', f'default/{it}')}", True) for it in "abc"], (f"DELETE {MAPS}", False), *[(f"DELETE {MAPS}?fieldSelector=metadata.name%3D{it}", True) for it in "bc"],
+       (f"PATCH {MAPS}/a {{}}", True), (f'PATCH {MAPS}/a {{"data":{{}}}}', False), (f"DELETE {MAPS}/a", False), (f"DELETE {MAPS}?labelSelector=x", True)]
+# A to P are ports and Q is that of answers; of a server what a client does, whose name begins with its port, and what comes.
+SERVERS = [(f"serve {words}", steps, "") for words, steps in (
+    (f"--first-revision {(1 << 48) - 11} {ROOT}", [("A", does, SOME if is_made else re.compile("503 .*no revision is left.*")) for does, is_made in FEW]),
     (ROOT, [("A", f"GET {MAPS}", listed(5)), ("A", "elsewhere", "nobody")]),
     (f"--load maps {ROOT}", [("A", f"GET {MAPS}", listed(7, a=6, b=7))]),
     (f"--load map --answer Q {ROOT}", [("A", f"GET {MAPS}", listed(6, b=6)), ("Q", ASKS, "0 denied\n")]),
@@ -232,7 +229,7 @@ SERVERS = [Case(f"serve {words}", steps=steps) for words, steps in (
         ("Q", f"?# a comment\n\n{ASKS[1:]}{OTHER}x\n{ASKS[1:]}", f"{TOLD}4 denied\nbad\n{TOLD}"), ("Q", ASKS[:20], ""), ("Q", "wait", "nothing"),
         ("Q", f"?{ASKS[20:]}", TOLD), ("A", f"DELETE {BINDING}", SOME), ("Q", ASKS, "5 denied\n"), ("Q", ASKS[:-1], ""), ("Q", "end", "5 denied\n"),
         ("Q1", "elsewhere", "nobody"), ("Q1", f"?{OTHER[:-1]:70000}\n", "5 denied\n"), ("Q1", f"?{OTHER[:-1]:1048577}", ""), ("Q1", "end", "")]),
-)] + [Case(f"serve --load /dev/stdin {ROOT}", input=MAP["b"].rstrip(), steps=[("A", f"GET {MAPS}", listed(6, b=6))])]
+)] + [(f"serve --load /dev/stdin {ROOT}", [("A", f"GET {MAPS}", listed(6, b=6))], MAP["b"].rstrip())]
 
 
 def step(client, does, wanted):
@@ -253,29 +250,20 @@ def step(client, does, wanted):
     return event if isinstance(event, str) else f'{event["type"]} {event["object"].get("code") or event["object"]["metadata"]["name"]}'
 
 
-def command(program, case, room):
-    """What is wanted of a command, and what came."""
-    try:
-        ran = subprocess.run([program, *case.words.split()], input=case.input, cwd=room, text=True, capture_output=True, timeout=60)
-        yield from (("it prints", case.told, ran.stdout), ("its status", str(int(case.status)), str(ran.returncode)))
-    except subprocess.TimeoutExpired as error:
-        yield "it ends", "", str(error)
-
-
-def server(program, case, room, ports):
-    """The same of a server: what it has printed, each step of its clients, and what it has printed then."""
-    words, told = re.sub(r"\b[A-Q]\b", lambda it: str(ports[it[0]]), case.words), room / f"told-{min(ports.values())}"
-    printed = "".join(f"listening {ports[it]}\n" for it in re.findall("([A-P])=", case.words) + re.findall("--answer (Q)", case.words))
+def server(program, words, steps, given, folder, numbers):
+    """Of a server what is wanted and what came: what it has printed, each step of its clients, and what it has printed then."""
+    ports = dict(zip(re.findall(r"\b[A-Q]\b", words), numbers))
+    printed, told = "".join(f"listening {ports[it]}\n" for it in re.findall("([A-P])=", words) + re.findall("--answer (Q)", words)), folder / "told"
     with told.open("w") as output:
-        process = subprocess.Popen([program, *words.split()], stdin=subprocess.PIPE, stdout=output, cwd=room, text=True)
+        process = subprocess.Popen([program, *re.sub(r"\b[A-Q]\b", lambda it: str(ports[it[0]]), words).split()], stdin=subprocess.PIPE, stdout=output, cwd=folder, text=True)
     try:
-        with contextlib.suppress(BrokenPipeError), process.stdin as given:
-            given.write(case.input)
+        with contextlib.suppress(BrokenPipeError), process.stdin as stream:
+            stream.write(given)
         end, clients = time.monotonic() + 60, {}
         while told.read_text() != printed and process.poll() is None and time.monotonic() < end:
             time.sleep(0.01)
         yield "it prints", printed, told.read_text()
-        for name, does, wanted in case.steps:
+        for name, does, wanted in steps:
             try:
                 clients[name] = clients.get(name) or Client(ports[name[0]], seconds=60)
                 yield f"client {name}, {does[:80]!r}", wanted, step(clients[name], does, wanted)
@@ -287,31 +275,10 @@ def server(program, case, room, ports):
         process.wait()
 
 
-def fault(run, program, case, *where):
-    """The first thing that is otherwise, on a line, from a little before the first byte that is."""
-    with contextlib.closing(run(program, case, *where)) as seen:
-        for what, wanted, got in seen:
-            text = getattr(wanted, "pattern", wanted)
-            if not (text == got if text is wanted else wanted.fullmatch(got)):
-                at = len(os.path.commonprefix([text, got]))
-                parts = [repr(it[max(at - 40, 0) : at + 80]) for it in (text, got)]
-                return f"kapi {case.words}: {what}, line {got[:at].count(chr(10)) + 1}: wanted {parts[0]}, got {parts[1]}"
-    return None
-
-
 def main(program):
-    program, ports = os.path.abspath(program), free()
-    with tempfile.TemporaryDirectory() as folder, ThreadPoolExecutor(4) as pool:
-        room = pathlib.Path(folder)
-        (room / "folder").mkdir()
-        for name, text in FILES.items():
-            (room / name).write_text(text)
-        runs = [pool.submit(fault, server, program, it, room, dict(zip(re.findall(r"\b[A-Q]\b", it.words), ports))) for it in SERVERS]
-        runs += [pool.submit(fault, command, program, it, room) for it in CASES]
-        wrong = [line for it in runs if (line := it.result())]
-    print(*wrong, f"{len(CASES)} commands and {len(SERVERS)} servers: {len(wrong)} not as they should be", sep="\n")
-    return 1 if wrong else 0
-
-
-if __name__ == "__main__":
-    sys.exit(main(*sys.argv[1:]))
+    with room(FILES) as folder:
+        yield from commands(program, CASES, folder)
+        numbers = free()
+        for words, steps, given in SERVERS:
+            with contextlib.closing(server(program, words, steps, given, folder, numbers)) as seen:
+                yield f"kapi {words}", next((f"{what}: {it}" for what, wanted, got in seen if (it := differs(wanted, got))), None)

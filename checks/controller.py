@@ -1,7 +1,7 @@
 """Runs the controller of examples/controller twice before a server: one leads and does its work, the other takes over once it is ended, and a missing
 permission shows as a 403 that names it.
 
-usage: python3 -m checks.controller PROGRAM     needs Debian's package python3-kubernetes
+usage: python3 -m checks PROGRAM controller     needs Debian's package python3-kubernetes
 """
 import json
 import pathlib
@@ -115,7 +115,3 @@ def main(program):
         return 1
     print("the controller works, is taken over, and is refused what its Role lacks")
     return 0
-
-
-if __name__ == "__main__":
-    sys.exit(main(*sys.argv[1:]))

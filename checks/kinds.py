@@ -1,17 +1,14 @@
 """Compares kinds with the program: tools/kinds.txt and examples/kinds/kubernetes.jsonl with what it serves, and files of kinds with what it refuses.
 
-usage: python3 -m checks.kinds PROGRAM
+usage: python3 -m checks PROGRAM kinds
 
 Each resource is served, in its scope, with its kind and its status, and no other stands in the source. The exit status is 1 where they differ.
 """
 import json
-import os
 import pathlib
 import re
-import subprocess
-import sys
-import tempfile
 
+from checks.harness import Case, bound, commands, lines, room, rule, thing
 from tools import kubectl_proxy
 
 CRATES = pathlib.Path(__file__).parent.parent / "crates"
@@ -20,7 +17,7 @@ COMMON = CRATES / "kapi_kinds/src/kubernetes.rt"
 
 LINE = {"group": "example.org", "version": "v1", "resource": "widgets", "kind": "Widget", "namespaced": True, "status": True}
 SPEC = {"group": "example.org", "names": {"plural": "widgets", "kind": "Widget"}, "scope": "Namespaced", "versions": [{"name": "v1", "served": True}]}
-DEFINITION = {"apiVersion": "apiextensions.k8s.io/v1", "kind": "CustomResourceDefinition", "metadata": {"name": "widgets.example.org"}}
+DEFINITION = thing("CustomResourceDefinition", "widgets.example.org", version="apiextensions.k8s.io/v1")
 SECRETS = {**LINE, "group": "", "resource": "secrets", "kind": "Other"}
 # A file of kinds, and how each line that the program says of it begins.
 REFUSED = [
@@ -56,12 +53,10 @@ def wanted(row):
     return [*lines, f"GET {own}/none/status", missing]
 
 
-def asked(program, rows, *head):
+def asked(rows, *head):
+    """A transcript of these rows is as wanted."""
     text = "\n".join([*head, "as root,system:masters", *(line for row in rows for line in wanted(row))]) + "\n"
-    with tempfile.NamedTemporaryFile("w", prefix="kinds-", suffix=".txt") as file:
-        file.write(text)
-        file.flush()
-        return subprocess.run([program, "replay", file.name], stdout=subprocess.PIPE, text=True, check=False)
+    return Case("replay transcript", told=re.compile(r"transcript: \d+ checks\n"), files={"transcript": text})
 
 
 def plurals_of_source():
@@ -73,66 +68,39 @@ def plurals_of_source():
     return found
 
 
-def misread(program, text, wanted_lines):
-    """What is wrong with how a file of kinds is refused."""
-    with tempfile.TemporaryDirectory() as room:
-        pathlib.Path(room, "kinds").write_text(text)
-        ran = subprocess.run([os.path.abspath(program), "script", "--kinds", "kinds"], cwd=room, input="", capture_output=True, text=True, check=False)
-    said = ran.stderr.splitlines()
-    well = ran.returncode == 1 and len(said) == len(wanted_lines) and all(it.startswith(f"kinds:{begin}") for it, begin in zip(said, wanted_lines))
-    return "" if well else f"{text!r}: status {ran.returncode}, {said}; wanted {wanted_lines}"
-
-
-ROLE = {"apiVersion": "rbac.authorization.k8s.io/v1", "kind": "Role", "metadata": {"name": "r", "namespace": "default"},
-        "rules": [{"apiGroups": ["example.org"], "resources": ["widgets", "gears"], "verbs": ["get"]}]}
-WIDGET = {"apiVersion": "example.org/v1", "kind": "Widget", "metadata": {"name": "w", "namespace": "default"}}
+ROLE = thing("Role", "r", "default", rules=[rule("get", "widgets gears", "example.org")])
+WIDGET = thing("Widget", "w", "default", "example.org/v1")
 # As an API server writes a list: its items have no kind of their own.
 DEFINITIONS = {"apiVersion": DEFINITION["apiVersion"], "kind": f"{DEFINITION['kind']}List", "items": [{"metadata": DEFINITION["metadata"], "spec": SPEC}]}
-GEARS = "policy:1: Role default/r: rule 0: no kind serves the resource gears"
-# The words behind a program, its status, and whether it prints or says a text.
-COMMANDS = [
-    ("audit policy questions", 1, "policy line 2", True),
-    ("audit policy questions --kinds kinds", 0, "denied", True),
-    ("audit --kinds kinds --kinds kubernetes policy questions", 0, "denied", True),
-    ("audit policy questions --kinds definitions", 0, "denied", True),
-    ("audit policy questions --kinds none", 1, "none: there is no such file", True),
-    ("check policy", 3, GEARS, False),
-    ("check policy --kinds kinds", 3, GEARS, True),
-    ("check --kinds kinds --kinds kinds policy", 1, "kinds:1: the resource widgets of the group example.org is there already", True),
-    ("script --kinds kinds", 0, "", True),
-    ("who policy get pods --kinds kinds", 2, "--kinds", True),
+GEARS = "policy:1  Role default/r: rule 0: no kind serves the resource gears"
+FILES = {"own": lines(LINE), "definitions": lines(DEFINITIONS), "policy": lines(ROLE, WIDGET),
+         "questions": lines({"user": "ann", "resourceAttributes": {"verb": "get", "resource": "widgets", "group": "example.org"}})}
+# A cluster-scoped kind that is named as one of Kubernetes that lives in namespaces, and a policy that names no widgets.
+SCOPED = {**LINE, "resource": "secrets", "kind": "Secret", "namespaced": False, "status": False}
+PLACED = lines(thing("Widget", "w", "shop", "example.org/v1"), thing("Secret", "s", None, "example.org/v1"))
+PLAYED = "manifests {}\nkinds own\nkinds scoped\nas root,system:masters\nGET /apis/example.org/v1/namespaces/shop/widgets/w\n= 200\nGET /apis/example.org/v1/secrets/s\n= 200\n"
+BOUND = lines(thing("ClusterRole", "r", rules=[rule("get", "pods")]), thing("ClusterRoleBinding", "b", **bound("ClusterRole r", "User ann")))
+MORE = {"scoped": lines(SCOPED), "placed": PLACED, "homeless": lines(thing("Widget", "w", None, "example.org/v1")), "bound": BOUND,
+        "played": PLAYED.format("placed"), "unplaced": PLAYED.format("homeless")}
+CASES = [
+    Case("replay played", told="played: 2 checks\n", files=MORE),
+    Case("replay unplaced", 1, None, re.compile(".*metadata.namespace: required of Widget w.*", re.S)),
+    Case("audit --manifests bound questions --kinds own --strict", told="denied\n"),
+    Case("audit --manifests bound questions --strict", 1, "no rule names the resource widgets", "denied\n"),
+    *[Case("script --kinds kinds", 1, re.compile("\n".join(f"kinds:{re.escape(it)}.*" for it in said)), files={"kinds": text}) for text, said in REFUSED],
+    Case("audit policy questions", 1, re.compile("policy line 2.*", re.S)),
+    *[Case(f"audit {words}", told="denied\n") for words in ("policy questions --kinds own", "--kinds own --kinds kubernetes policy questions", "policy questions --kinds definitions")],
+    Case("audit policy questions --kinds none", 1, "none: there is no such file"),
+    *[Case(f"check policy{words}", 3, "skipped: 1 Widget", re.compile(f"{told}.*", re.S)) for words, told in (("", f"(?!.*{GEARS})"), (" --kinds own", f".*{GEARS}"))],
+    Case("check --kinds own --kinds own policy", 1, "own:1: the resource widgets of the group example.org is there already"),
+    Case("script --kinds own"), Case("who policy get pods --kinds own", 2, re.compile(".*--kinds.*", re.S)),
 ]
 
 
-def misdone(program, words, status, text, is_there):
-    """What is wrong with how a command ends."""
-    with tempfile.TemporaryDirectory() as room:
-        pathlib.Path(room, "kinds").write_text(json.dumps(LINE) + "\n")
-        pathlib.Path(room, "definitions").write_text(json.dumps(DEFINITIONS))
-        pathlib.Path(room, "policy").write_text(json.dumps(ROLE) + "\n" + json.dumps(WIDGET) + "\n")
-        pathlib.Path(room, "questions").write_text('{"user":"ann","resourceAttributes":{"verb":"get","resource":"widgets","group":"example.org"}}\n')
-        ran = subprocess.run([os.path.abspath(program), *words.split()], cwd=room, input="", capture_output=True, text=True, check=False)
-    well = ran.returncode == status and (text in ran.stdout + ran.stderr) == is_there
-    return "" if well else f"kapi {words}: status {ran.returncode}, {ran.stdout!r}, {ran.stderr!r}"
-
-
 def main(program):
-    own = kubectl_proxy.own_rows()
-    common = kubectl_proxy.added_rows("kubernetes")
-    wrong = [it for it in (misread(program, *each) for each in REFUSED) if it]
-    wrong += [it for it in (misdone(program, *each) for each in COMMANDS) if it]
-    for ran in (asked(program, own), asked(program, common, "kinds kubernetes")):
-        print(ran.stdout, end="")
-        wrong += ["requests are not answered as wanted"] if ran.returncode else []
-    named = {row.plural for row in own}
-    others = named ^ plurals_of_source()
-    print(f"kinds of tools/kinds.txt: {len(named)}; in it or in the source alone: {', '.join(sorted(others)) or 'none'}")
-    in_program = [line for line in COMMON.read_text().splitlines() if '"group"' in line]
-    differ = len(in_program) != len(common)
-    print(f"common kinds: {len(common)}; in the source: {len(in_program)}")
-    print(f"files of kinds that are refused: {len(REFUSED)}; commands: {len(COMMANDS)}", *wrong, sep="\n")
-    return 1 if wrong or others or differ else 0
-
-
-if __name__ == "__main__":
-    sys.exit(main(*sys.argv[1:]))
+    own, common = kubectl_proxy.own_rows(), kubectl_proxy.added_rows("kubernetes")
+    with room(FILES) as folder:
+        yield from commands(program, [*CASES, asked(own), asked(common, "kinds kubernetes")], folder)
+    yield "kinds in tools/kinds.txt or in the source alone", ", ".join(sorted({row.plural for row in own} ^ plurals_of_source()))
+    in_source = COMMON.read_text().count('"group"')
+    yield "common kinds", f"{len(common)}, and {in_source} lines in the source" * (in_source != len(common))

@@ -1,6 +1,6 @@
 """Runs everyday commands of kubectl through tools/kubectl_proxy.py, and compares how what each prints begins with a table.
 
-usage: python3 -m checks.kubectl PROGRAM [KUBECTL]     from kubectl 1.32 on it needs Debian's packages that tools/bodies.py names
+usage: python3 -m checks PROGRAM kubectl [KUBECTL]     from kubectl 1.32 on it needs Debian's packages that tools/bodies.py names
 
 The last line counts the commands that work. The exit status is 1 if a line differs from the table.
 """
@@ -10,7 +10,6 @@ import pathlib
 import re
 import shlex
 import subprocess
-import sys
 import tempfile
 
 from tools.server import OTHER, ROOT, Server, started
@@ -244,7 +243,3 @@ def main(program, kubectl="kubectl"):
         proxy.kill()
     print(f"{working} of {len(TABLE.strip().splitlines())} commands work")
     return 1 if wrong else 0
-
-
-if __name__ == "__main__":
-    sys.exit(main(*sys.argv[1:]))

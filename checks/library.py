@@ -1,6 +1,6 @@
 """Checks the C library and the packages over it, and compares it with `kapi audit`.
 
-usage: python3 -m checks.library PROGRAM [FOLDER [QUESTIONS [SEED]]]     the folder that `make library PREFIX=..` wrote, out/library
+usage: python3 -m checks PROGRAM library [FOLDER [QUESTIONS [SEED]]]     the folder that `make library PREFIX=..` wrote, out/library
 if left out, 10,000 questions and the seed 1; needs cc, and runs what valgrind, c++, cargo and go are there
 
 C: each export, each fault, each allocation refused in turn; with valgrind once more. What the shared object shows, and its size.
@@ -19,29 +19,21 @@ import sys
 import tempfile
 import threading
 
+from checks.harness import bound, rule, thing
+
 ROOT = pathlib.Path(__file__).resolve().parent.parent
 POLICIES = ["examples/audit/policy.jsonl", "examples/replay/policy.jsonl", "examples/compare/before.jsonl", "examples/compare/after.jsonl", "examples/serve/objects.jsonl"]
-RBAC = "rbac.authorization.k8s.io"
 LARGEST = 1_200_000
 THREADS = 8
 
-EVERYTHING = [{"apiGroups": ["*"], "resources": ["*"], "verbs": ["*"]}, {"nonResourceURLs": ["*"], "verbs": ["*"]}]
-REVIEWS = [{"apiGroups": ["authorization.k8s.io"], "resources": ["selfsubjectaccessreviews", "selfsubjectrulesreviews"], "verbs": ["create"]}]
-
-
-def cluster_role(name, rules):
-    return {"apiVersion": f"{RBAC}/v1", "kind": "ClusterRole", "metadata": {"name": name}, "rules": rules}
-
-
-def cluster_binding(name, group):
-    subjects = [{"apiGroup": RBAC, "kind": "Group", "name": group}]
-    return {"apiVersion": f"{RBAC}/v1", "kind": "ClusterRoleBinding", "metadata": {"name": name}, "subjects": subjects,
-            "roleRef": {"apiGroup": RBAC, "kind": "ClusterRole", "name": name}}
-
-
 # What a server, and so an audit, begins with (docs/AUDIT.md).
-OPENING = [{"apiVersion": "v1", "kind": "Namespace", "metadata": {"name": "default"}}, cluster_role("cluster-admin", EVERYTHING), cluster_role("system:basic-user", REVIEWS),
-           cluster_binding("cluster-admin", "system:masters"), cluster_binding("system:basic-user", "system:authenticated")]
+OPENING = [
+    thing("Namespace", "default"),
+    thing("ClusterRole", "cluster-admin", rules=[rule("*", "*", "*"), {"nonResourceURLs": ["*"], "verbs": ["*"]}]),
+    thing("ClusterRole", "system:basic-user", rules=[rule("create", "selfsubjectaccessreviews selfsubjectrulesreviews", "authorization.k8s.io")]),
+    thing("ClusterRoleBinding", "cluster-admin", **bound("ClusterRole cluster-admin", "Group system:masters")),
+    thing("ClusterRoleBinding", "system:basic-user", **bound("ClusterRole system:basic-user", "Group system:authenticated")),
+]
 
 
 def run(*words, **how):
@@ -258,7 +250,3 @@ def main(program, folder="out/library", questions="10000", seed="1"):
             run("go", "test", "./...", cwd=ROOT / "bindings/go", env=os.environ | {"KAPI_ASKED": str(asked)})
         decided = sum(len(it.read_text()) for it in asked.glob("*.answers"))
     print(f"library: {decided:,} decisions are those of kapi audit, in each language that is there")
-
-
-if __name__ == "__main__":
-    main(*sys.argv[1:])

@@ -1,34 +1,29 @@
-#!/usr/bin/env python3
 """Changes the policy of a server while clients of its answer port ask, and looks at what they are told; and at when scripts and audits answer.
 
-usage: python3 -m checks.live PROGRAM
+usage: python3 -m checks PROGRAM live
 
 A role is made (the first change) and then a binding of it made and deleted 100 times. After an even number of changes from 2 on ann is
 allowed, else denied; the number never falls on a connection, and is 201 in the end. Clients who go away amid a line, or before their answers, take
-no reader with them. A script's answer comes before its next line is read, and readers of an audit run at once. The exit status is 1 if it is
-otherwise.
+no reader with them. A script's answer comes before its next line is read, and readers of an audit run at once.
 """
 import contextlib
 import os
-import pathlib
 import pty
 import select
 import socket
 import subprocess
-import sys
-import tempfile
 import threading
 import time
 import tty
 
+from checks.harness import bound, room, rule, thing
 from checks.sockets import SECONDS, reset, unread, until
 from tools.server import ANSWER, ROOT, Server, ask, connect, of_threads
 
 READERS, TIMES = 4, 100
 POLICY = "/apis/rbac.authorization.k8s.io/v1/namespaces/default"
 QUESTION = b'{"user":"ann","resourceAttributes":{"namespace":"default","verb":"get","resource":"pods"}}\n'
-ROLE = {"metadata": {"name": "r"}, "rules": [{"verbs": ["get"], "apiGroups": [""], "resources": ["pods"]}]}
-BINDING = {"metadata": {"name": "b"}, "roleRef": {"kind": "Role", "name": "r"}, "subjects": [{"kind": "User", "name": "ann"}]}
+ROLE, BINDING = thing("Role", "r", rules=[rule("get", "pods")]), thing("RoleBinding", "b", **bound("Role r", "User ann"))
 
 
 def change(client, method, path, item=None):
@@ -85,12 +80,11 @@ def script(program):
     return (*told, *process.communicate(timeout=SECONDS), process.returncode) == (b"conn 0\n", b"none\n", b"", b"the script cannot be read\n", 1)
 
 
-def audit(program, room):
+def audit(program, folder):
     """Whether two threads of an audit went on between two looks, thrice; of one that takes some seconds, if shorter ones do not show it."""
-    (room / "policy").write_text("")
     for power in range(5, 11):
-        (room / "questions").write_bytes(QUESTION * 4**power)
-        process = subprocess.Popen([program, "audit", "policy", "questions", "--readers", "2"], cwd=room, stdout=subprocess.DEVNULL)
+        (folder / "questions").write_bytes(QUESTION * 4**power)
+        process = subprocess.Popen([program, "audit", "policy", "questions", "--readers", "2"], cwd=folder, stdout=subprocess.DEVNULL)
         before, times = {}, 0
         while process.poll() is None and times < 3 and sum(before.values()) < 4e9:
             time.sleep(0.005)
@@ -117,14 +111,7 @@ def main(program):
         is_over.set()
         for client in clients:
             client.join()
-    well = [is_right(each) for each in told]
-    for each, is_well in zip(told, well):
-        print(f"{len(each)} answers, {len({line.partition(' ')[0] for line in each})} numbers of changes:", "as it should be" if is_well else "otherwise")
-    with tempfile.TemporaryDirectory() as room:
-        well += [script(os.path.abspath(program)), audit(os.path.abspath(program), pathlib.Path(room))]
-    print("a script's answers come at once, and readers of an audit run at once:", "as it should be" if all(well[-2:]) else f"otherwise, {well[-2:]}")
-    return 0 if all(well) else 1
-
-
-if __name__ == "__main__":
-    sys.exit(main(*sys.argv[1:]))
+    yield from ((f"{len(each)} answers, {len({line.partition(' ')[0] for line in each})} numbers of changes", not is_right(each)) for each in told)
+    yield "a script's answers come at once", not script(program)
+    with room({"policy": ""}) as folder:
+        yield "readers of an audit run at once", not audit(program, folder)

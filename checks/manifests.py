@@ -1,50 +1,31 @@
 """Files of manifests as people have them, of each form, through `kapi compare`, `kapi who` and `kapi risks`: what loads, what is told of it, and what is refused.
 
-usage: python3 -m checks.manifests PROGRAM     needs bash, and the package PyYAML for the files of YAML
+usage: python3 -m checks PROGRAM manifests     needs bash, and the package PyYAML for the files of YAML
 """
 import importlib.util
 import json
+import os
 import pathlib
 import re
 import subprocess
 import sys
-import tempfile
 
-from checks.statuses import Case, fault
-
-RBAC = "rbac.authorization.k8s.io"
-
-
-def thing(kind, name, namespace=None, version=f"{RBAC}/v1", **members):
-    metadata = {"name": name} | ({"namespace": namespace} if namespace else {})
-    return {"apiVersion": version, "kind": kind, "metadata": metadata, **members}
-
-
-def rule(verbs, resources, groups=("",)):
-    return {"apiGroups": list(groups), "resources": resources.split(), "verbs": verbs.split()}
-
-
-def bound(kind, name, user="ann", subject="User"):
-    return {"roleRef": {"apiGroup": RBAC, "kind": kind, "name": name}, "subjects": [{"apiGroup": RBAC, "kind": subject, "name": user}]}
+from checks.harness import RBAC, Case, bound, commands, lines, room, rule, thing, write
 
 
 def pretty(value):
     return json.dumps(value, indent=4) + "\n"
 
 
-def lines(*values):
-    return "".join(json.dumps(it) + "\n" for it in values)
-
-
 def listed(*values, kind="List", version="v1"):
     return {"apiVersion": version, "items": list(values), "kind": kind, "metadata": {"resourceVersion": ""}}
 
 
-SHOP = thing("Namespace", "shop", version="v1")
+SHOP = thing("Namespace", "shop")
 READER = thing("Role", "reader", "shop", rules=[rule("get", "secrets")])
-READERS = thing("RoleBinding", "readers", "shop", **bound("Role", "reader"))
+READERS = thing("RoleBinding", "readers", "shop", **bound("Role reader", "User ann"))
 SEER = thing("ClusterRole", "seer", rules=[rule("list", "secrets")])
-SEERS = thing("ClusterRoleBinding", "seers", **bound("ClusterRole", "seer", "bob"))
+SEERS = thing("ClusterRoleBinding", "seers", **bound("ClusterRole seer", "User bob"))
 OTHERS = [
     thing("NetworkPolicy", f"n{it}", "shop", "networking.k8s.io/v1", spec={"podSelector": {}}) for it in range(3)
 ] + [thing("CustomResourceDefinition", "c", None, "apiextensions.k8s.io/v1", spec={"weight": 0.5}), thing("ConfigMap", "m", "shop", "v1")]
@@ -72,7 +53,7 @@ def refused(text, *told, words="risks policy", name="policy"):
 SKIPPED = "skipped: 1 ConfigMap, 1 CustomResourceDefinition, 3 NetworkPolicy"
 POLICY = [READER, READERS, SEER]
 HOMELESS = "metadata.namespace: required of {} {}; --namespace names one for all objects that name none"
-BARE = lines(thing("Role", "reader", rules=[rule("get", "secrets")]), thing("RoleBinding", "readers", **bound("Role", "reader")))
+BARE = lines(thing("Role", "reader", rules=[rule("get", "secrets")]), thing("RoleBinding", "readers", **bound("Role reader", "User ann")))
 YAML = "policy:1: it begins like YAML, and JSON is read; 'tools/policy.py FILE..' makes JSON of it, as 'yq -o json FILE' does"
 NO_JSON = "the object is no JSON: the fault is at line {}, column {}"
 OPEN = "the object that begins here is not closed"
@@ -94,12 +75,24 @@ FORMS = [
     who(BARE, ANN),
     refused(BARE, "policy:1: " + HOMELESS.format("Role", "reader"), "policy:2: " + HOMELESS.format("RoleBinding", "readers")),
 ]
+ITEMS = "kubectl takes a document with a member items for a list; they are no array, or named in another case, or nest too deep"
+BODY = {key: it for key, it in READER.items() if key not in ("kind", "apiVersion")}
+CONFIG = thing("ConfigMap", "c", "shop")
+OPENED = [
+    who(lines({**CONFIG, "items": POLICY}), ANN),
+    who(lines({**thing("Role", "other", "shop", rules=[]), "items": [BODY]}, READERS), ANN),
+    who(pretty(listed(listed(READER), listed(listed(READERS), SEER))), ANN),
+    refused(pretty(listed(listed(listed(listed(READER))))), f"policy:1: {ITEMS}"),
+    *[refused(lines(READER, {**CONFIG, "items": it}), f"policy:2: {ITEMS}") for it in (None, {}, "a")],
+    *[refused(lines({**CONFIG, name: []}), f"policy:1: {ITEMS}") for name in ("Items", "ITEMS", "item\u017f")],
+    refused(json.dumps({**READERS, "items": [1, READER, [], {"kind": "Role"}]}, indent=0), *[f"policy:{it}: apiVersion and kind: required, each a text" for it in (1, 22, 44)]),
+]
 STANDING = [
-    thing("Namespace", "default", version="v1"),
+    thing("Namespace", "default"),
     thing("ClusterRole", "cluster-admin", rules=[rule("*", "*", "*"), {"nonResourceURLs": ["*"], "verbs": ["*"]}]),
-    thing("ClusterRole", "system:basic-user", rules=[rule("create", "selfsubjectreviews", ["authentication.k8s.io"])]),
-    thing("ClusterRoleBinding", "cluster-admin", **bound("ClusterRole", "cluster-admin", "olga")),
-    thing("ClusterRoleBinding", "system:basic-user", **bound("ClusterRole", "system:basic-user", "system:authenticated", "Group")),
+    thing("ClusterRole", "system:basic-user", rules=[rule("create", "selfsubjectreviews", "authentication.k8s.io")]),
+    thing("ClusterRoleBinding", "cluster-admin", **bound("ClusterRole cluster-admin", "User olga")),
+    thing("ClusterRoleBinding", "system:basic-user", **bound("ClusterRole system:basic-user", "Group system:authenticated")),
 ]
 OLGA = ("User olga", "*", "ClusterRoleBinding cluster-admin", "ClusterRole cluster-admin, rule 0")
 DUMPS = [
@@ -140,7 +133,7 @@ COMPARED = [
     Case("compare before empty", 1, "before: roles: 2, bindings: 1\nempty: there is no role and no binding in it", "", files={"empty": lines(SHOP)}),
     Case("compare before yaml", 1, YAML.replace("policy:", "yaml:"), "", files={"yaml": "kind: ClusterRoleBinding\nroleRef: {name: cluster-admin}\n"}),
     Case("compare before loose", 0, "before: roles: 2, bindings: 1\nloose: roles: 2, bindings: 2\n" + LOOSE, "Nobody gains.\n",
-         files={"loose": lines(*POLICY, thing("RoleBinding", "viewers", "shop", **bound("ClusterRole", "view")))}),
+         files={"loose": lines(*POLICY, thing("RoleBinding", "viewers", "shop", **bound("ClusterRole view", "User ann")))}),
     *[Case(f"compare {words}", 1, None, "Nobody gains.\n") for words in ("--strict before loose", "--strict loose loose", "loose loose --strict")],
     Case("compare --strict before before", 0, None, "Nobody gains.\n"),
     Case("compare loose loose", 0, "loose: roles: 2, bindings: 2\n" * 2 + LOOSE, "Nobody gains.\n"),
@@ -152,7 +145,7 @@ COMPARED = [
 ]
 
 BARE_ROLES = json.dumps({"apiVersion": f"{RBAC}/v1", "kind": "RoleList", "items": [{"metadata": {"name": "reader", "namespace": "shop"}, "rules": READER["rules"]}]})
-VIEWERS = lines(thing("RoleBinding", "viewers", "shop", **bound("ClusterRole", "view", "bob")))
+VIEWERS = lines(thing("RoleBinding", "viewers", "shop", **bound("ClusterRole view", "User bob")))
 BOB = ("User bob", "shop", "RoleBinding viewers", "ClusterRole view, rule 0")
 QUESTIONS = "".join(json.dumps({"user": user, "resourceAttributes": {"namespace": "shop", "verb": "get", "resource": what}}) + "\n" for user, what in (("ann", "secrets"), ("bob", "pods")))
 ALLOWED = "allowed RoleBinding readers, Role reader, rule 0\n"
@@ -195,81 +188,69 @@ TOGETHER = [
 ]
 
 
-def in_folder(program, room):
-    """A folder is its files of JSON, in the order of their names, and one of YAML among them is refused; other files are left alone."""
-    folder = room / "rbac"
-    folder.mkdir()
-    for name, text in {"b.json": pretty(READERS), "a.jsonl": lines(READER), "notes.md": "# notes\n"}.items():
-        (folder / name).write_text(text)
-    yield fault(program, Case("who rbac get secrets --namespace shop", 0, "", table(EVERY, ANN)), room)
-    (folder / "c.yml").write_text("kind: Role\n")
-    yield fault(program, Case("risks rbac", 1, YAML.replace("policy:", "rbac/c.yml:"), ""), room)
-    (folder / "c.yml").unlink()
-    (folder / "d.json").write_text("{")
-    yield fault(program, Case("who rbac/ get secrets", 1, f"rbac/d.json:1: {OPEN}", ""), room)
+def everybody(words, error="", status=0):
+    """Who may get secrets in `shop` is just ann, besides the masters."""
+    return Case(f"who {words} get secrets --namespace shop", status, error, table(EVERY, ANN) if not status else "")
 
 
-def as_shipped(program, room):
-    """A folder as projects ship it loads by one command: lists, several documents, other kinds, objects without a namespace, bindings before their roles, CRLF, and a byte order mark."""
-    folder = room / "shipped"
-    folder.mkdir()
-    bare = {**READERS, "metadata": {"name": "readers"}}
-    for name, text in {
-        "10-bindings.json": pretty(listed(bare, *OTHERS[:1])).replace("\n", "\r\n"),
-        "20-roles.json": "\ufeff" + pretty({**READER, "metadata": {"name": "reader"}}) + pretty(SEER),
-        "30-crd.json": pretty(OTHERS[3]) + pretty(OTHERS[4]),
-        "40-more.jsonl": "# bindings of everybody\n" + lines(SEERS),
-    }.items():
-        (folder / name).write_text(text, newline="")
-    told = "skipped: 1 ConfigMap, 1 CustomResourceDefinition, 1 NetworkPolicy"
-    yield fault(program, Case("who shipped get secrets --namespace shop --strict", 0, told, table(EVERY, ANN)), room)
-    yield fault(program, Case("compare shipped shipped --namespace shop --strict", 0, re.compile(f"({told}\n){{2}}(shipped: roles: 2, bindings: 2\n?){{2}}"), "Nobody gains.\n"), room)
+def in_folder(folder):
+    """A folder is its files of JSON and those of folders in it and of links, in the order of their names, and one of YAML among them is refused; others are named."""
+    write(folder, {"rbac/b.json": pretty(SEER), "rbac/more/a.jsonl": lines(READER), "elsewhere/l.json": lines(READERS), "rbac/notes.md": "# notes\n", "rbac/.git": ""})
+    os.symlink("../elsewhere", folder / "rbac/linked")
+    other = "not read: rbac/notes.md"
+    yield everybody("rbac", other)
+    yield everybody("--strict rbac", other, 1)
+    (folder / "rbac/notes.md").unlink()
+    yield everybody("--strict rbac")
+    for name, text, case in (
+        ("more/c.yml", "kind: Role\n", Case("risks rbac", 1, YAML.replace("policy:", "rbac/more/c.yml:"), "")),
+        ("more/c.YAML", "kind: Role\n", Case("risks rbac --strict", 1, "not read: rbac/more/c.YAML", "")),
+        ("d.json", "{", Case("who rbac/ get secrets", 1, f"rbac/d.json:1: {OPEN}", "")),
+    ):
+        write(folder / "rbac", {name: text})
+        yield case
+        (folder / "rbac" / name).unlink()
+    os.mkfifo(folder / "rbac/e.json")
+    yield Case("risks rbac", 1, "rbac/e.json: it is no plain file", "")
+    (folder / "rbac/e.json").unlink()
+    os.symlink(".", folder / "rbac/circle")
+    yield everybody("--strict rbac")
 
 
-def pull_request(program, room):
-    """The recipe of docs/COMPARE.md finds what a pull request of YAML gives everybody."""
-    if importlib.util.find_spec("yaml") is None:
-        return
+# Where faults are that stand below lines of the converter.
+MARKED = f'#line 7 "a b/c.yaml"\n{lines(READER)}\n{lines(READER)}#line x "d"\n#line 3 "e.yaml"\n{{"kind":\n"Role"}}\n'
+PLACED = [refused(MARKED, "e.yaml:3: apiVersion and kind: required, each a text"),
+          refused(MARKED.split("#line x")[0], "a b/c.yaml:9: roles reader already exists")]
+# A folder as projects ship it: lists, several documents, other kinds, objects without a namespace, bindings before their roles, CRLF, and a byte order mark.
+SHIPPED = {
+    "10-bindings.json": pretty(listed({**READERS, "metadata": {"name": "readers"}}, *OTHERS[:1])).replace("\n", "\r\n"),
+    "20-roles.json": "\xef\xbb\xbf" + pretty({**READER, "metadata": {"name": "reader"}}) + pretty(SEER),
+    "30-crd.json": pretty(OTHERS[3]) + pretty(OTHERS[4]), "40-more.jsonl": "# bindings of everybody\n" + lines(SEERS),
+}
+LEFT_OUT = "skipped: 1 ConfigMap, 1 CustomResourceDefinition, 1 NetworkPolicy"
+AS_SHIPPED = [
+    Case("who shipped get secrets --namespace shop --strict", 0, LEFT_OUT, table(EVERY, ANN), files={f"shipped/{name}": text for name, text in SHIPPED.items()}),
+    Case("compare shipped shipped --namespace shop --strict", 0, re.compile(f"({LEFT_OUT}\n){{2}}(shipped: roles: 2, bindings: 2\n?){{2}}"), "Nobody gains.\n"),
+]
+
+
+def of_yaml(folder):
+    """What tools/policy.py makes of YAML is the policy of the same objects, and the recipe of docs/COMPARE.md finds what a pull request gives everybody."""
     import yaml
 
-    everybody = thing("ClusterRoleBinding", "everybody", **bound("ClusterRole", "cluster-admin", "system:authenticated", "Group"))
-    for name, objects in {"base": [READER, READERS], "head": [READER, READERS, everybody]}.items():
-        (room / name).mkdir()
-        (room / name / "rbac.yaml").write_text(yaml.safe_dump_all(objects))
-        made = subprocess.run([sys.executable, pathlib.Path(__file__).parent.parent / "tools/policy.py", name], cwd=room, capture_output=True, text=True)
-        yield made.stderr
-        (room / f"{name}.jsonl").write_text(made.stdout)
-    yield fault(program, Case("compare --strict base.jsonl head.jsonl", 3, None, re.compile('SUBJECT.*\nGroup system:authenticated .*\n(.*\n)*')), room)
-    yield fault(program, Case("compare --strict base head", 1, re.compile("base/rbac.yaml:1: it begins like YAML.*\nhead/rbac.yaml:1: it begins like YAML.*"), ""), room)
+    def made(name, text):
+        write(folder, {name: text})
+        return subprocess.run([sys.executable, pathlib.Path("tools/policy.py").resolve(), name.partition("/")[0]], cwd=folder, stdout=subprocess.PIPE, stderr=subprocess.STDOUT, check=True, text=True).stdout
 
-
-def of_yaml(program, room):
-    """What tools/policy.py makes of YAML is the policy of the same objects."""
-    if importlib.util.find_spec("yaml") is None:
-        return
-    import yaml
-
-    (room / "policy.yaml").write_text(yaml.safe_dump_all([listed(READER), None, READERS]))
-    made = subprocess.run([sys.executable, pathlib.Path(__file__).parent.parent / "tools/policy.py", "policy.yaml"], cwd=room, capture_output=True, text=True)
-    yield made.stderr
-    yield fault(program, who(made.stdout, ANN), room)
+    yield who(made("policy.yaml", "---\n".join([yaml.safe_dump(listed(READER)), "# nothing\n", yaml.safe_dump(READERS)])), ANN)
+    everybody = thing("ClusterRoleBinding", "everybody", **bound("ClusterRole cluster-admin", "Group system:authenticated"))
+    base, head = (made(f"{name}/rbac.yaml", yaml.safe_dump_all(objects)) for name, objects in (("base", [READER, READERS]), ("head", [READER, READERS, everybody])))
+    yield Case("compare --strict base.jsonl head.jsonl", 3, None, re.compile("SUBJECT.*\nGroup system:authenticated .*\n(.*\n)*"), files={"base.jsonl": base, "head.jsonl": head})
+    yield Case("compare --strict base head", 1, re.compile("base/rbac.yaml:1: it begins like YAML.*\nhead/rbac.yaml:1: it begins like YAML.*"), "")
 
 
 def main(program):
-    program, wrong, count = str(pathlib.Path(program).resolve()), 0, 0
-    with tempfile.TemporaryDirectory() as folder:
-        room = pathlib.Path(folder)
-        found = [(case.words, fault(program, case, room)) for case in [*FORMS, *DUMPS, *FAULTS, *COMPARED, *TOGETHER]]
-        found += [("a folder", it) for it in in_folder(program, room)] + [("YAML", it) for it in of_yaml(program, room)]
-        found += [("a folder as shipped", it) for it in as_shipped(program, room)] + [("a pull request", it) for it in pull_request(program, room)]
-        for words, what in found:
-            count += 1
-            if what:
-                wrong += 1
-                print(f"{words}: {what}")
-    print(f"{count} commands, {wrong} not as wanted")
-    return 1 if wrong else 0
-
-
-if __name__ == "__main__":
-    sys.exit(main(*sys.argv[1:]))
+    with room() as folder:
+        yield from commands(program, [*FORMS, *OPENED, *PLACED, *DUMPS, *FAULTS, *COMPARED, *TOGETHER, *AS_SHIPPED], folder)
+        for check in (in_folder, *[of_yaml] * (importlib.util.find_spec("yaml") is not None)):
+            yield from commands(program, check(folder), folder)

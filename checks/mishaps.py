@@ -1,23 +1,21 @@
 """Lets each call of a server on its clients fail in turn, pass one byte, or find nothing, and looks at what four clients get.
 
-usage: python3 -m checks.mishaps PROGRAM     needs cc
+usage: python3 -m checks PROGRAM mishaps     needs cc
 
 A watch, a client who writes (`turned` of checks/sockets.py), one without rights, and one of the answer port are there at once. Calls that pass one
 byte or find nothing change nothing of what each gets. One that fails ends one connection: its client got a beginning of what was due, all others
-get theirs, but for the watch if the writer is cut off. The exit status is 1 if it is otherwise.
+get theirs, but for the watch if the writer is cut off.
 """
 import contextlib
 import itertools
 import mmap
 import os
-import pathlib
 import re
 import socket
 import struct
-import subprocess
-import sys
 import tempfile
 
+from checks.harness import preloaded
 from checks.sockets import MAPS, ROLES, SECONDS, TURNING, got, revision, turned, until
 from tools.server import ANN, ANSWER, ROOT, Server, ask, connect, request
 
@@ -76,19 +74,11 @@ def play(server, plan):
 
 def main(program):
     socket.setdefaulttimeout(SECONDS)
-    with tempfile.TemporaryDirectory() as room, tempfile.NamedTemporaryFile() as file:
-        shim = f"{room}/mishap.so"
-        subprocess.run(["cc", "-shared", "-fPIC", "-O2", "-o", shim, pathlib.Path(__file__).with_name("mishap.c")], check=True)
+    with preloaded("mishap.c") as shim, tempfile.NamedTemporaryFile() as file:
         file.truncate(mmap.PAGESIZE)
-        plan = mmap.mmap(file.fileno(), mmap.PAGESIZE)
-        with Server(program, "--answer", str(ANSWER), env={**os.environ, "LD_PRELOAD": shim, "MISHAP": file.name}) as server:
-            runs = list(play(server, plan))
-    if not any(calls for _kind, _number, calls, _well in runs) and all(well for *_run, well in runs):
-        sys.exit(f"{program} hands its calls to no C library")
-    wrong = [f"otherwise if {f'call {number}' if number else 'each call'} {('', 'passes a byte', 'finds nothing', 'fails')[kind]}" for kind, number, _calls, well in runs if not well]
-    print(*wrong, f"{len(runs)} mishaps: {len(wrong)} not as they should be", sep="\n")
-    return 1 if wrong else 0
-
-
-if __name__ == "__main__":
-    sys.exit(main(*sys.argv[1:]))
+        plan, made = mmap.mmap(file.fileno(), mmap.PAGESIZE), 0
+        with Server(program, "--answer", str(ANSWER), env={**os.environ, **shim, "MISHAP": file.name}) as server:
+            for kind, number, calls, is_well in play(server, plan):
+                made += calls
+                yield f"{f'call {number}' if number else 'each call'} {('', 'passes a byte', 'finds nothing', 'fails')[kind]}", not is_well
+        yield "calls of a C library", not made

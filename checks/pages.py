@@ -1,6 +1,6 @@
 """Runs the commands of README and of the pages for users, and compares what they print with what the page shows.
 
-usage: python3 -m checks.pages PROGRAM [PAGE..]      needs curl and jq; a block that needs more is left out if that is not there
+usage: python3 -m checks PROGRAM pages [PAGE..]      needs curl and jq; a block that needs more is left out if that is not there
 
 A block marked `sh` is run by bash at the top of a copy of the repository. The next block without a mark is what a terminal shows of
 it, but for line ends at the end; a block that shows nothing must end with status 0. The server of `make serve-demo` goes on until the
@@ -16,7 +16,7 @@ import subprocess
 import sys
 import tempfile
 
-from checks.statuses import part, shell
+from checks.harness import part, shell
 from tools.server import started
 
 HERE = pathlib.Path(__file__).resolve().parent.parent
@@ -130,7 +130,3 @@ def main(program, *pages):
         print(f"{name}: {count} blocks run, {len(faults)} not as shown")
         print("".join(f"  {it}\n" for it in faults), end="")
     return 1 if failed else 0
-
-
-if __name__ == "__main__":
-    sys.exit(main(*sys.argv[1:]))

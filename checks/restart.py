@@ -1,6 +1,6 @@
 """Kills a server behind a running informer and starts it again, with fewer and with more objects, and looks at the informer's cache.
 
-usage: python3 -m checks.restart PROGRAM     needs the package kubernetes of Python; a client asks through the discovery proxy (tools/kubectl_proxy.py)
+usage: python3 -m checks PROGRAM restart     needs the package kubernetes of Python; a client asks through the discovery proxy (tools/kubectl_proxy.py)
 
 The informer lists, watches from the list's revision, goes on from the last revision that it saw where its connection breaks, and lists anew
 where it is told 410, as client-go's does. The exit status is 1 where its cache is not the server's list within 10 s.
@@ -83,7 +83,3 @@ def main(program):
         time.sleep(1)
     proxy.kill()
     return 1 if wrong else 0
-
-
-if __name__ == "__main__":
-    sys.exit(main(*sys.argv[1:]))

@@ -1,8 +1,9 @@
 """Clients that come in a crowd, ask for much at once or byte by byte, go away, or take nothing; sleeping watches, and turns, for which nobody asks.
 
-usage: python3 -m checks.sockets PROGRAM     prints what does not hold, and then ends with status 1
+usage: python3 -m checks PROGRAM sockets
 """
 import contextlib
+import functools
 import json
 import pathlib
 import select
@@ -200,8 +201,7 @@ def deaf(server):
     yield "a client that takes late is answered in full", got(late, len(told)) == told
 
 
-def text_of(item):
-    return json.dumps(item, separators=(",", ":"), sort_keys=True)
+text_of = functools.partial(json.dumps, separators=(",", ":"), sort_keys=True)
 
 
 def role(name, made, revision, rules=(), **more):
@@ -253,16 +253,9 @@ def turns(_server):
 
 def main(program):
     socket.setdefaulttimeout(SECONDS)
-    wrong = []
     for scene in (crowd, fair, gone, watches, watcher_sends, deaf, turns):
         with Server(program) as server:
             try:
-                wrong += [f"{scene.__name__}: {what}" for what, holds in scene(server) if not holds]
+                yield from ((f"{scene.__name__}: {what}", not holds) for what, holds in scene(server))
             except (OSError, ValueError, AssertionError) as error:
-                wrong.append(f"{scene.__name__}: {error!r}")
-    print(*[f"not so: {it}" for it in wrong], f"7 scenes of clients: {len(wrong)} not as they should be", sep="\n")
-    return 1 if wrong else 0
-
-
-if __name__ == "__main__":
-    sys.exit(main(*sys.argv[1:]))
+                yield scene.__name__, repr(error)

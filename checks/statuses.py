@@ -1,55 +1,19 @@
 """The program's exit statuses, what it writes on standard error, and of some commands what it prints; servers that do not start among them.
 
-usage: python3 -m checks.statuses PROGRAM     needs bash
+usage: python3 -m checks PROGRAM statuses     needs bash
 """
 import json
 import os
 import pathlib
 import pty
 import re
-import shlex
 import shutil
 import subprocess
-import sys
-import tempfile
 import time
 import urllib.request
-from dataclasses import dataclass, field
 
+from checks.harness import RBAC, Case, bound, commands, differs, lines, part, room, rule, shell, thing
 from tools.server import ROOT, Server
-
-
-@dataclass
-class Case:
-    """Words of a command, its status, and its lines on standard error. A pattern stands for whatever it matches, None for anything."""
-
-    words: object
-    status: int
-    error: object = ""
-    told: object = None
-    input: str = ""
-    files: dict = field(default_factory=dict)
-    folder: str = ""
-    is_full: bool = False
-    is_mute: bool = False
-
-
-def fault(program, case, room):
-    """What came where it is otherwise than the case says."""
-    for name, text in case.files.items():
-        (room / name).write_bytes(text.encode("latin-1"))
-    words = shlex.split(case.words) if isinstance(case.words, str) else case.words
-    with open("/dev/full", "wb") as full:
-        out, error = (full if it else subprocess.PIPE for it in (case.is_full, case.is_mute))
-        how = {"stdout": out, "stderr": error, "timeout": 60}
-        ran = subprocess.run([program, *words], input=case.input.encode("latin-1"), cwd=room / case.folder, **how)
-    got = {"status": ran.returncode, "error": (ran.stderr or b"").decode().removesuffix("\n"), "told": (ran.stdout or b"").decode()}
-    return {name: text for name, text in got.items() if not fits(getattr(case, name), text)}
-
-
-def fits(wanted, text):
-    return wanted is None or (wanted.fullmatch(text) is not None if isinstance(wanted, re.Pattern) else wanted == text)
-
 
 # A script of such a line behind three others is not played to its end, for this reason.
 EVENT = "no event: open USER[,GROUP..], feed N TEXT, serve N, pump N, turn or close N, one space between words; try 'kapi script --help'"
@@ -133,7 +97,6 @@ POLICY, QUESTIONS, STORED = ((EXAMPLES / "audit" / it).read_text() for it in ("p
 WHOLE = "it is no whole JSON object; each line has one, as 'jq -c' writes it"
 KIND = "apiVersion and kind: required, each a text"
 SPACES = ("\r\n", " \n", "\t\r\n")
-RBAC = "rbac.authorization.k8s.io"
 FAULTY = f'{{"apiVersion":"{RBAC}/v1","kind":"Role","metadata":{{"name":"r","namespace":"NAMESPACE"}},"rules":[{{"apiGroups":[""],"resources":["pods"]}}]}}'
 UNLOADED = {
     '{"kind":': WHOLE,
@@ -211,7 +174,7 @@ FORMLESS = {
     f"{ASKED}close a": NUMBER,
     f"{ASKED}feed 0 \\q": ESCAPE,
 }
-SHOP = '{"apiVersion":"v1","kind":"Namespace","metadata":{"name":"shop"}}\n'
+SHOP = lines(thing("Namespace", "shop"))
 # Files of objects: what a transcript that loads them tells, and the reason.
 OBJECTS = (
     ("{}\n", "load line 1", KIND),
@@ -220,21 +183,21 @@ OBJECTS = (
 )
 
 
-def tells(lines, what, reason, **files):
+def tells(text, what, reason, **files):
     """A transcript of these lines tells what is wrong with the last of them, and why."""
-    told = f"transcript:{len(lines.splitlines())}: {what}\n  {reason}\ntranscript: 0 checks, 1 not as wanted\n"
-    return Case("replay transcript", 1, told=told, files={"transcript": lines + "\n", **files})
+    told = f"transcript:{len(text.splitlines())}: {what}\n  {reason}\ntranscript: 0 checks, 1 not as wanted\n"
+    return Case("replay transcript", 1, told=told, files={"transcript": text + "\n", **files})
 
 
-def differs(lines, at):
-    text = f"as root,system:masters\nGET /api/v1/namespaces/default\n{lines}\n"
+def otherwise(text, at):
+    text = f"as root,system:masters\nGET /api/v1/namespaces/default\n{text}\n"
     return Case("replay transcript", 1, told=re.compile(rf"(.*\n)?transcript:{at}\b.*", re.S), files={"transcript": text, "objects": "{}\n"})
 
 
 REPLAYS = [
     Case("replay support.txt", 0, told="support.txt: 12 checks\n", folder="replay"),
-    *[differs(*it) for it in DIFFERENT.items()],
-    *[tells(lines, "no known form", reason) for lines, reason in FORMLESS.items()],
+    *[otherwise(*it) for it in DIFFERENT.items()],
+    *[tells(text, "no known form", reason) for text, reason in FORMLESS.items()],
     *[tells("# a case\nload objects", what, reason, objects=objects) for objects, what, reason in OBJECTS],
     Case("replay transcript", 1, files={"transcript": "as a\nbegin\n= 200\n"},
          told="transcript:3\n  asked  nothing: no request or event comes before it in its case\n  wanted = 200\n  got    \ntranscript: 1 checks, 1 not as wanted\n"),
@@ -245,68 +208,19 @@ REPLAYS = [
 ]
 
 
-def item(kind, metadata, members):
-    """A role or binding as a line."""
-    return f'{{"apiVersion":"{RBAC}/v1","kind":"{kind}","metadata":{{{metadata}}},{members}}}\n'
+def labelled(name, key, value, **members):
+    return thing("ClusterRole", name, **members) | {"metadata": {"name": name, "labels": {key: value}}}
 
 
-def bound(role, name, group):
-    return f'"roleRef":{{"apiGroup":"{RBAC}","kind":"{role}","name":"{name}"}},"subjects":[{{"apiGroup":"{RBAC}","kind":"Group","name":"{group}"}}]'
-
-
-# How many roles and bindings each policy has, and the bindings that give nothing.
-COUNTS = re.compile("before: roles: .*\nafter: roles: .*(\n.* gives nothing)*")
-
-
-def gains(before, after, *lines):
-    """The second policy gives just these lines that the first did not."""
-    told = "([^\n]*\n)?" + "".join(re.escape(it).replace(r"\ ", " +") + "\n" for it in lines)
-    return Case("compare --atoms before after", 3 if lines else 0, COUNTS, told=re.compile(told), files={"before": before, "after": after})
-
-
-ROLE = item("Role", '"name":"r","namespace":"shop"', '"rules":[{"apiGroups":[""],"resources":["pods"],"resourceNames":["a","b"],"verbs":["get","list"]}]')
-BINDING = item("RoleBinding", '"name":"b","namespace":"shop"', bound("Role", "r", "dev"))
-POLICIES = (
-    SHOP + ROLE + BINDING,
-    SHOP + item("ClusterRole", '"name":"r"', '"rules":[{"apiGroups":[""],"resources":["pods"],"verbs":["get"]}]')
-    + item("RoleBinding", '"name":"b","namespace":"shop"', bound("ClusterRole", "r", "dev")),
-    item("ClusterRole", '"name":"fills","labels":{"fills":"view"}', '"rules":[{"apiGroups":[""],"resources":["pods","services"],"verbs":["get","list"]}]')
-    + item("ClusterRole", '"name":"view"', '"aggregationRule":{"clusterRoleSelectors":[{"matchLabels":{"fills":"view"}}]},"rules":[]')
-    + item("ClusterRole", '"name":"finds"', '"rules":[{"nonResourceURLs":["/api","/api/*","/healthz"],"verbs":["get"]}]')
-    + item("ClusterRoleBinding", '"name":"finders"', bound("ClusterRole", "finds", "all"))
-    + item("ClusterRoleBinding", '"name":"viewers"', bound("ClusterRole", "view", "dev")),
-)
-
-
-def changed(policy, old, new, who, by, *atoms):
-    """The policy with a text in place of another gives just these atoms besides."""
-    assert old in policy, old
-    return gains(policy, policy.replace(old, new), *[f"{who} {atom} {by}" for atom in atoms])
-
-
-DEV, BY, VIEWERS = "Group dev shop", "RoleBinding b, Role r, rule 0", "ClusterRoleBinding viewers, ClusterRole view, rule 0"
-HELD = [f'["{verb}","","pods","{name}"]' for verb in ("get", "list") for name in ("a", "b")]
+ROLE = lines(thing("Role", "r", "shop", rules=[rule("get list", "pods", names="ab")]))
+BINDING = lines(thing("RoleBinding", "b", "shop", **bound("Role r", "Group dev")))
 # 70 cluster roles, each of which is filled with the rules of the one before, of which 64 turns fill 64.
-CHAIN = item("ClusterRole", '"name":"r0","labels":{"n":"0"}', '"rules":[{"apiGroups":[""],"resources":["pods"],"verbs":["get"]}]') + "".join(
-    item("ClusterRole", f'"name":"r{it}","labels":{{"n":"{it}"}}', f'"aggregationRule":{{"clusterRoleSelectors":[{{"matchLabels":{{"n":"{it - 1}"}}}}]}},"rules":[]')
-    for it in range(1, 71)
-)
+CHAIN = lines(labelled("r0", "n", "0", rules=[rule("get", "pods")]), *[
+    labelled(f"r{it}", "n", str(it), aggregationRule={"clusterRoleSelectors": [{"matchLabels": {"n": str(it - 1)}}]}, rules=[]) for it in range(1, 71)])
 UNSETTLED = "chain: the roles are not settled after 64 turns"
 BAD = f"bad:3: {KIND}"
 COMPARISONS = [
-    changed(POLICIES[0], '"list"]', '"list","watch"]', DEV, BY, '["watch","","pods","a"]', '["watch","","pods","b"]'),
-    changed(POLICIES[0], '"get","list"', '"*"', DEV, BY, '["*","","pods","a"]', '["*","","pods","b"]'),
-    changed(POLICIES[0], '"resourceNames":["a","b"],', "", DEV, BY, '["get","","pods"]', '["list","","pods"]'),
-    changed(POLICIES[0], '"a","b"', '"a","b","c"', DEV, BY, '["get","","pods","c"]', '["list","","pods","c"]'),
-    changed(POLICIES[0], '"a","b"', '"a"', DEV, BY),
-    changed(POLICIES[0], '"Group","name":"dev"', '"User","name":"dev"', "User dev shop", BY, *HELD),
-    changed(POLICIES[0], '"Group","name":"dev"', '"Group","name":"developers"', "Group developers shop", BY, *HELD),
-    gains(SHOP + BINDING, POLICIES[0], *[f"{DEV} {it} {BY}" for it in HELD]),
-    changed(POLICIES[1], '"RoleBinding","metadata":{"name":"b","namespace":"shop"}', '"ClusterRoleBinding","metadata":{"name":"b"}',
-            "Group dev *", "ClusterRoleBinding b, ClusterRole r, rule 0", '["get","","pods"]'),
-    gains(POLICIES[2], POLICIES[2]),
-    changed(POLICIES[2], '"services"', '"secrets"', "Group dev *", VIEWERS, '["get","","secrets"]', '["list","","secrets"]'),
-    Case("compare chain after", 4, re.compile(f"chain: .*\nafter: .*\n{UNSETTLED}"), files={"chain": CHAIN}),
+    Case("compare chain after", 4, re.compile(f"chain: .*\nafter: .*\n{UNSETTLED}"), files={"chain": CHAIN, "after": SHOP + ROLE + BINDING}),
     Case("compare after chain", 4, re.compile(f"after: .*\nchain: .*\n{UNSETTLED}")),
     Case("who chain get pods", 4, UNSETTLED),
     Case("risks chain", 4, UNSETTLED, told=re.compile("(.*\n)?The roles are not settled.*", re.S)),
@@ -332,28 +246,68 @@ def logged(verb, decision):
 UNUSED = SHOP + ROLE.replace('"resourceNames":["a","b"],', "").replace('"list"]}]', '"list"]},{"apiGroups":[""],"resources":["secrets"],"verbs":["get"]}]') + BINDING
 LOG = logged("get", "forbid") + logged("delete", "allow") + logged("delete", "forbid") * 2
 DOUBT, EVE = "RoleBinding shop/b: Role r is not in the policy: it gives nothing", "User eve: {} pods in namespace shop"
-FEEDS = item("ClusterRole", '"name":"feeds","labels":{"rbac.authorization.k8s.io/aggregate-to-view":"true"}', '"rules":[{"apiGroups":["coordination.k8s.io"],"resources":["leases"],"verbs":["get"]}]')
-LABELLED = item("ClusterRole", '"name":"other","labels":{"aggregate-to-view":"true"}', '"rules":[{"apiGroups":[""],"resources":["leases"],"verbs":["get"]}]')
+FEEDS = lines(labelled("feeds", f"{RBAC}/aggregate-to-view", "true", rules=[rule("get", "leases", "coordination.k8s.io")]), labelled("other", "aggregate-to-view", "true", rules=[rule("get", "leases")]))
 LEFT_OUT = "left out, as members of system:masters need no role: 1\n"
 MAY_GO = "".join(f"may go: {it}\n" for it in ("ClusterRoleBinding cluster-admin, ClusterRole cluster-admin, rule 1",
                                               "ClusterRoleBinding system:basic-user, ClusterRole system:basic-user, rule 0", "RoleBinding shop/b, Role r, rule 1"))
+ROBOTS = lines(thing("ServiceAccount", "robot"), thing("Role", "r", "shop", rules=[rule("get", "pods")]),
+               thing("RoleBinding", "b", "shop", **bound("Role r", "ServiceAccount robot shop", "ServiceAccount default shop")))
+# Names that would be escapes of a terminal, HTML and commands of a CI system.
+NAMES = lines(thing("ClusterRole", "r", rules=[rule("::get", "pods")]), thing("ClusterRoleBinding", "b", **bound("ClusterRole r", "User eve")),
+              thing("ClusterRoleBinding", "\x1b[2J<b>|##[error]", **bound("ClusterRole none", "User ::x")))
+SHOWN = "ClusterRoleBinding \\x1b[2J<b>|\\x23\\x23[error]: ClusterRole none is not in the policy: it gives nothing"
+WHOM = "paths lead to everything, every user, User NAME, Group NAME, ServiceAccount NAMESPACE/NAME, and to all in, accounts of or limits of a namespace"
 # What else suggest, check and an audit of a log say, and how they end.
 FINDINGS = [
+    Case("what names eve", 0, SHOWN, re.compile(r"(?s).*\n\\x3a:get +pods.*"), files={"names": NAMES}),
+    Case("check names", 3, "", f"WHERE    FINDING\nnames:3  {SHOWN}\n"),
+    Case("check names --format markdown", 3, "", re.compile(r"(?s).*\n\| names\\:3 \| ClusterRoleBinding \\x1b\\\[2J\\<b\\>\\\|\\x23\\x23\\\[error\\\]\\: .*")),
+    Case("paths names --format markdown", 0, SHOWN, re.compile("(?s)```\nGroup system:masters -> .*\n```\n")),
+    *[Case(f"{words} --format text", 2, f"error: invalid value 'text' for '--format <FORM>': table, markdown or json\n\nFor more information, try 'kapi {words.split()[0]} --help'.", "")
+      for words in ("check names", "paths names", "who names get pods", "audit names log --log")],
+    *[Case(words + " --strict", 1, f"{SHOWN}\n{said}", None) for words, said in (
+        ("what names olga", "no binding names the user olga"), ("what names olga dev", "no binding names the group dev\nno binding names the user olga"),
+        ("what names eve --namespace shop", "no object names the namespace shop"), ("paths names --to 'User olga'", "no binding names the user olga"),
+        ("paths names --to 'accounts of shop'", "no object names the namespace shop"), ("paths names --to olga", f"--to olga: {WHOM}"))],
+    *[Case(words, 0, SHOWN, None) for words in ("what names eve --namespace default", "paths names --to 'User eve'", "paths names --to 'accounts of every namespace'", "who names '*' po")],
     Case("suggest --policy unused uses", 0, f"left out, as the policy denies them: 2\n{LEFT_OUT}{MAY_GO}".strip(),
          files={"unused": UNUSED, "uses": used("ann", "get") + used("ann", "delete") + used("bob", "get", group="") + used("root", "get", group="system:masters")}),
     Case("suggest uses", 0, LEFT_OUT.strip()),
     Case("suggest --policy chain uses", 4, re.compile(f"left out, as the policy denies them: 3\n(.*\n)*{UNSETTLED}")),
-    Case("check chain", 4, UNSETTLED, told=re.compile("(chain:.*: nothing binds it\n)+")),
-    Case("check feeds", 3, told="feeds:2: ClusterRole other: nothing binds it\nfeeds:2: ClusterRole other: rule 0: no kind serves the resource leases\n", files={"feeds": FEEDS + LABELLED}),
-    Case("audit unused log --log", 3, told=f"line 1: the log refused, the policy allows: {EVE.format('get')}\nline 2: the log allowed, the policy refuses: {EVE.format('delete')}\n"
-         f"refused 3 times: {EVE.format('delete')}\n", files={"log": LOG}),
+    Case("check chain", 4, UNSETTLED, told=re.compile("WHERE.*\n(chain:[0-9]+ .*: nothing binds it\n)+")),
+    Case("check feeds", 3, told="WHERE    FINDING\nfeeds:2  ClusterRole other: nothing binds it\nfeeds:2  ClusterRole other: rule 0: no kind serves the resource leases\n", files={"feeds": FEEDS}),
+    Case("audit unused log --log", 3, told=f"LINE  LOG      POLICY   REQUEST\n1     denied   allowed  {EVE.format('get')}\n2     allowed  denied   {EVE.format('delete')}\n\n"
+         f"TIMES  DENIED\n3      {EVE.format('delete')}\n", files={"log": LOG}),
     Case("audit unused log --log --json", 3, told=f'{{"allowedByLog":false,"line":1,"request":"{EVE.format("get")}"}}\n{{"allowedByLog":true,"line":2,"request":"{EVE.format("delete")}"}}\n'
          f'{{"count":3,"refused":"{EVE.format("delete")}"}}\n'),
     Case("audit doubtful log --log", 3, DOUBT, files={"doubtful": SHOP + BINDING}),
     Case("audit doubtful log --log --strict", 1, DOUBT),
     Case("audit chain log --log", 4, UNSETTLED),
+    *[Case(f"compare {words}", 4, re.compile(f"(.*\n)*{UNSETTLED}(\n.*)*"), None) for words in ("chain unused --lost", "unused chain --lost", "doubtful chain --strict")],
+    *[Case(f"who maker get pods {words}", status, "skipped: 1 Kustomization\n1 Kustomization: what it makes is not read", None, files={"maker": NAMES.rpartition("\n{")[0] + "\n" + lines(thing("Kustomization", "k"))})
+      for words, status in (("", 0), ("--strict", 1))],
+    Case("check robots --namespace shop", 0, "skipped: 1 ServiceAccount", "Nothing dangles.\n", files={"robots": ROBOTS}),
+    Case("check robots", 3, "skipped: 1 ServiceAccount", re.compile("(.*\n)+.*there is no ServiceAccount shop/robot\n")),
+    *[Case(f"suggest --policy doubtful uses{words}", status, re.compile(f"(.*\n)*{DOUBT}"), None) for words, status in (("", 0), (" --strict", 1))],
+    Case("who names --questions -", 0, SHOWN, re.compile("line 1: get pods\n(.*\n)+"), input="get pods\n"),
     Case("replay second --junit /dev/full", 1, "/dev/full: what it prints cannot be written, as the disk is full", told="second: 1 checks\n"),
     Case("replay second --junit none/junit.xml", 1, "none/junit.xml: there is no such file", told="second: 1 checks\n"),
+]
+# Who can become whom.
+MASTERS, UNSEEN = "Group system:masters -> everything\n" * 2, "Not looked at: pod security, admission, the rights of nodes, and what runs in the cluster.\n"
+MASTERS = MASTERS.replace("\n", "\n  ", 1)
+ROOTED, TOKEN = ("* * cluster-wide (ClusterRoleBinding root, ClusterRole cluster-admin, rule 0) -> everything",
+                 "create serviceaccounts/token in kube-system (RoleBinding kube-system/x, Role y, rule 0) -> accounts of kube-system")
+DEPLOYER = f"ServiceAccount kube-system/deployer -> everything\n  {ROOTED}\n"
+EVES = [thing("Role", "y", "kube-system", rules=[rule("create", "serviceaccounts/token")]), thing("RoleBinding", "x", "kube-system", **bound("Role y", "User eve")),
+        thing("ClusterRoleBinding", "root", **bound("ClusterRole cluster-admin", "ServiceAccount deployer kube-system"))]
+PATHS = [
+    Case("paths eve", 0, "", f"{MASTERS}{DEPLOYER}User eve -> everything\n  {TOKEN}\n  accounts of kube-system -> ServiceAccount kube-system/deployer\n  {ROOTED}\n{UNSEEN}",
+         files={"eve": lines(*EVES)}),
+    Case("paths eve --without tokens", 0, "", MASTERS + DEPLOYER + UNSEEN),
+    Case("paths ann", 0, "", MASTERS + UNSEEN, files={"ann": lines(thing("ClusterRole", "r", rules=[rule("*", "configmaps")]), thing("ClusterRoleBinding", "b", **bound("ClusterRole r", "User ann")))}),
+    Case("paths eve --without token", 2, "--without token: there is no such kind; kapi paths --help names them", ""),
+    Case("paths few --to 'accounts of kube-system'", 0, "", f"{MASTERS}User eve -> accounts of kube-system\n  {TOKEN}\n{UNSEEN}", files={"few": lines(*EVES[:2])}),
 ]
 SERVERS = [
     *[Case(f"serve {words} 60001=a '60001= b'", 3, f"{said}port 60001: the name ' b' begins or ends with white space\ncannot listen 60001: the port is in use", told="listening 60001\n")
@@ -375,20 +329,7 @@ LONG = 400_000
 def at_another_revision(program):
     for words, revision in REVISIONS.items():
         with Server(program, *words.split()), urllib.request.urlopen(f"http://127.0.0.1:{ROOT}/api/v1/namespaces") as answer:
-            text = answer.read().decode()
-        if not re.search(rf'"metadata":{{"resourceVersion":"{revision}"}}', text):
-            yield f"serve {words}: {text}"
-
-
-def shell(program, commands, folder):
-    """What commands print that call the program `kapi`."""
-    words = {"env": {**os.environ, "PATH": f"{os.path.dirname(program)}:{os.environ['PATH']}"}, "stdout": subprocess.PIPE, "stderr": subprocess.DEVNULL}
-    return subprocess.run(["bash", "-c", commands], cwd=folder, text=True, timeout=60, **words).stdout
-
-
-def part(text, head):
-    """The lines that stand indented below a line of a help."""
-    return re.sub("^  ", "", re.search(rf"^{head}\n((?:  .*\n)+)", text, re.M)[1], flags=re.M)
+            yield f"serve {words}", differs(re.compile(f'.*"metadata":{{"resourceVersion":"{revision}"}}.*', re.S), answer.read().decode())
 
 
 def other_examples(program, room):
@@ -396,18 +337,16 @@ def other_examples(program, room):
     for command in ("script", "audit", "replay", "compare", "who", "what", "risks", "paths", "check", "suggest"):
         text = subprocess.run([program, command, "--help"], capture_output=True, text=True).stdout
         told = shell(program, part(text, "Example:"), room)
-        if told != part(text, "It prints"):
-            yield f"the example of kapi {command} --help: {told}"
+        yield f"the example of kapi {command} --help", differs(part(text, "It prints"), told)
     for words in ("", *COMMANDS):
         text = subprocess.run([program, *words.split(), "--help"], capture_output=True, text=True).stdout
-        yield from (f"kapi {words} --help: {len(it)} columns: {it}" for it in text.splitlines() if len(it) > 80)
+        yield f"lines of more than 80 columns in kapi {words} --help", "; ".join(it for it in text.splitlines() if len(it) > 80)
     for name, example in ("COMPARE", "compare"), ("QUESTIONS", "rights"):
         page = re.sub("^```.*?^```", "", pathlib.Path(f"docs/{name}.md").read_text(), flags=re.M | re.S)
         wanted = "".join(f"{it}\n" for it in re.findall("^    (.*)", page, re.M))
         commands = re.findall("^[$] (.*)\n", wanted, re.M)
         told = "".join(f"$ {it}\n" + shell(program, it, room / example) for it in commands)
-        if told != wanted or commands != (EXAMPLES / example / "command").read_text().splitlines():
-            yield f"docs/{name}.md: {told}"
+        yield f"docs/{name}.md", differs(wanted, told) or commands != (EXAMPLES / example / "command").read_text().splitlines()
 
 
 def at_a_terminal(program, room):
@@ -428,26 +367,17 @@ def at_a_terminal(program, room):
         shown = os.read(ours, 65536).decode().replace("\r\n", "\n")
         read = rf"(\d+ of {LONG} lines\n)+" if is_terminal else ""
         wanted = read + r"empty: there is no role and no binding in it\n\.?"
-        if (ran.returncode, ran.stdout) != (0, b"") or not re.fullmatch(wanted, shown):
-            yield f"audit --log, {is_terminal=}: status {ran.returncode}, {ran.stdout}, {shown!r}"
+        yield f"audit --log, {is_terminal=}", (ran.returncode, ran.stdout) != (0, b"No decision differs.\n") or differs(re.compile(wanted), shown)
         os.close(ours), os.close(theirs)
 
 
 def main(program):
-    cases = [*SCRIPTS, *WORDS, *AUDITS, *REPLAYS, *COMPARISONS, *FINDINGS, *SERVERS]
-    with tempfile.TemporaryDirectory() as folder:
-        room = pathlib.Path(folder)
-        shutil.copytree(EXAMPLES, room, dirs_exist_ok=True)
-        (room / "bin").mkdir()
-        (room / "bin/kapi").symlink_to(os.path.abspath(program))
-        (room / "empty").write_text("")
-        (room / "bad").write_text('\n# nothing\n{"kind":"Pod"}\n')
-        kapi = str(room / "bin/kapi")
-        wrong = [f"kapi {case.words!r}, {case.input[:80]!r}, {case.files}: {got}" for case in cases if (got := fault(kapi, case, room))]
-        wrong += [*other_examples(kapi, room), *at_another_revision(kapi), *at_a_terminal(kapi, room)]
-    print(*wrong, f"{len(cases)} commands, 10 examples of help, two pages and {len(REVISIONS)} servers: {len(wrong)} not as they should be", sep="\n")
-    return 1 if wrong else 0
-
-
-if __name__ == "__main__":
-    sys.exit(main(*sys.argv[1:]))
+    with room({"empty": "", "bad": '\n# nothing\n{"kind":"Pod"}\n'}) as folder:
+        shutil.copytree(EXAMPLES, folder, dirs_exist_ok=True)
+        (folder / "bin").mkdir()
+        (folder / "bin/kapi").symlink_to(program)
+        kapi = str(folder / "bin/kapi")
+        yield from commands(kapi, [*SCRIPTS, *WORDS, *AUDITS, *REPLAYS, *COMPARISONS, *FINDINGS, *PATHS, *SERVERS], folder)
+        for check in (other_examples, at_a_terminal):
+            yield from check(kapi, folder)
+        yield from at_another_revision(kapi)

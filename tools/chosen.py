@@ -1,7 +1,10 @@
 """Runs modules of a folder over a program, and says how long each took."""
+import importlib
+import os
 import subprocess
 import sys
 import time
+import types
 from concurrent.futures import ThreadPoolExecutor
 from dataclasses import dataclass
 
@@ -14,10 +17,23 @@ class Module:
     words: tuple = None
 
 
+def outcome(module, *words):
+    """The status of a module's `main`, which gives it, or yields cases: of each what it is, and what is wrong with it, if something is."""
+    told = importlib.import_module(module).main(*words)
+    if not isinstance(told, types.GeneratorType):
+        return told
+    count = wrong = 0
+    for what, fault in told:
+        count, wrong = count + 1, wrong + bool(fault)
+        print(*[f"{what}: {'it is otherwise' if fault is True else fault}\n"] * bool(fault), sep="", end="", flush=True)
+    print(f"{count} cases, {wrong} not as they should be")
+    return 0 if count and not wrong else 1
+
+
 def run(folder, name, words, **how):
-    """Runs a module: whether it failed, what it printed where that is caught, and how it ended."""
+    """Runs a module in a process of its own: whether it failed, what it printed where that is caught, and how it ended."""
     begun = time.monotonic()
-    ran = subprocess.run([sys.executable, "-m", f"{folder}.{name.replace('-', '_')}", *words], **how)
+    ran = subprocess.run([sys.executable, "-m", "tools.chosen", f"{folder}.{name.replace('-', '_')}", *words], **how)
     ended = f"FAILED with status {ran.returncode}" if ran.returncode else "passed"
     return ran.returncode != 0, (ran.stdout or b"").decode(), f"{name}: {ended} after {time.monotonic() - begun:.0f} s"
 
@@ -26,7 +42,7 @@ def main(folder, modules, jobs, program, names="", *words):
     """Runs the modules of these names, with commas between them, one after the other with the words; or so many at a time of all that have words here.
 
     Of these, one that fails is run once more with nothing beside it, since some wait for sockets."""
-    named = [it for it in names.replace(",", " ").split() if it]
+    program, named = os.path.abspath(program), names.replace(",", " ").split()
     others = [it for it in named if it not in modules]
     if others:
         sys.exit(f"{folder}/ has no {', '.join(others)}; there are {', '.join(modules)}")
@@ -49,3 +65,7 @@ def main(folder, modules, jobs, program, names="", *words):
     if failed:
         print(f"of {folder}/ failed: {', '.join(failed)}")
     return 1 if failed else 0
+
+
+if __name__ == "__main__":
+    sys.exit(outcome(*sys.argv[1:]))

@@ -72,7 +72,11 @@ class Times:
         names = {root: name}
         for (pid, start), (above, seconds, held) in sorted(found.items(), key=lambda it: it[0][1]):
             if pid == root or above in names:
-                counted = names[pid] = named(pid, names.get(above, name))
+                counted = named(pid, names.get(above, name))
+                # A process that is ending has no words any more.
+                if (pid, start) in self.taken and not text_of(f"/proc/{pid}/cmdline"):
+                    counted = self.taken[pid, start][0]
+                names[pid] = counted
                 self.taken[pid, start] = counted, seconds
                 memory[counted] += held
                 self.first.setdefault(counted, now)

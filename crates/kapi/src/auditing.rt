@@ -5,12 +5,12 @@ ghost use Rattle.kapi_core.specs.Table.{fits};
 use kapi_audit::{AuditFault, Audited, NoGate, audit_alone, audit_run};
 use kapi_command_line::{AuditFiles, Reading};
 use kapi_commands::{
-    Ending, ReadPolicy, audit_log, doubts_of, print, read_file, read_kinds, read_policy,
+    Ending, ReadPolicy, audit_log, doubts_of, print, read_file, read_kinds, read_policy_of,
     tell_reason, tell_refused, tell_unsettled,
 };
-use kapi_lines::{as_text, numbered_lines};
+use kapi_lines::{Form, as_text, numbered_lines};
+use kapi_loading::{object_reason, question_reason};
 use kapi_model::ResourceRow;
-use kapi_reasons::{object_reason, question_reason};
 use kapi_text::Sequence;
 use serde_json::Value;
 use std::fs::Files;
@@ -28,13 +28,13 @@ pub fn run_audit<
     };
     match &files.manifests {
         Some(reading) if files.log => audit_log(rt, files, reading, on_terminal),
-        Some(reading) => audit_manifests(rt, files, reading),
+        Some(reading) => audit_manifests(rt, table.as_slice(), files, reading),
         None => audit_lines(rt, &table, files),
     }
 }
 
 /// Answers by a policy of lines.
-fn audit_lines<R: Files + Print + Eprint + AllocGlobal + Threads + Wait + Sync>(
+fn audit_lines<R: Files + Input + Print + Eprint + AllocGlobal + Threads + Wait + Sync>(
     rt: &R,
     table: &Sequence<ResourceRow>,
     files: &AuditFiles,
@@ -50,7 +50,7 @@ fn audit_lines<R: Files + Print + Eprint + AllocGlobal + Threads + Wait + Sync>(
     let (policy, questions) = (policy.as_slice(), questions.as_slice());
     match audit(rt, table, policy, questions, files.readers) {
         Ok(answers) => {
-            print_answers(rt, files.json, answers.as_slice())?;
+            print_answers(rt, files.form, answers.as_slice())?;
             Ok(Ending::Done)
         }
         Err(fault) => {
@@ -67,8 +67,8 @@ fn audit_lines<R: Files + Print + Eprint + AllocGlobal + Threads + Wait + Sync>(
 /// Answers by a policy of manifests, whose doubts are reported.
 fn audit_manifests<
     R: Files + Input + Print + Eprint + AllocGlobal + Threads + Wait + Sync + Clone + Drop,
->(rt: &R, files: &AuditFiles, reading: &Reading) -> io::Result<Ending> {
-    let Some(policy) = read_policy(rt, files.policy.as_str(), reading)? else {
+>(rt: &R, table: &[ResourceRow], files: &AuditFiles, reading: &Reading) -> io::Result<Ending> {
+    let Some(policy) = read_policy_of(rt, table, files.policy.as_str(), reading)? else {
         return Ok(Ending::Stopped);
     };
     let Some(questions) = read_file(rt, files.questions.as_str())? else {
@@ -77,7 +77,7 @@ fn audit_manifests<
     let questions = questions.as_slice();
     match audit_objects(rt, &policy, questions, files.readers) {
         Ok(audited) => {
-            print_answers(rt, files.json, audited.text.as_slice())?;
+            print_answers(rt, files.form, audited.text.as_slice())?;
             tell_unsettled(rt, files.policy.as_str(), audited.settled)?;
             let mut doubts = doubts_of(rt, files.policy.as_str(), &policy)?;
             doubts.tell_reviews(rt, &policy.prepared.words, questions)?;
@@ -93,8 +93,8 @@ fn audit_manifests<
 }
 
 /// Prints answers, as JSON an object a line.
-fn print_answers<R: Print + AllocGlobal>(rt: &R, json: bool, answers: &[u8]) -> io::Result<()> {
-    if !json {
+fn print_answers<R: Print + AllocGlobal>(rt: &R, form: Form, answers: &[u8]) -> io::Result<()> {
+    if form != Form::Json {
         return print(rt, answers);
     }
     let mut text = Vec::new(rt.alloc());

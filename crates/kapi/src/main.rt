@@ -6,7 +6,6 @@
 mod auditing;
 mod beginning;
 mod bounded_lines;
-mod kept_lines;
 mod replaying;
 mod serving;
 
@@ -15,12 +14,11 @@ use clap::Error;
 use kapi_command_line::{Command, CommandFault, command, complaint};
 use kapi_commands::{
     Ending, read_kinds, run_check, run_compare, run_paths, run_risks, run_suggest, run_what,
-    run_who, tell_reason, tell_stopped,
+    run_who, tell_stopped,
 };
 use kapi_index::IndexedPolicy;
-use kapi_reasons::script_reason;
-use kapi_script::{ScriptFault, script_run};
-use kept_lines::KeptLines;
+use kapi_script::script_run;
+use kapi_text::Text;
 use replaying::run_replay;
 use serving::run_serve;
 use std::env::{self, Env};
@@ -105,12 +103,12 @@ fn complained<R: Env + AllocGlobal>(rt: &R) -> Result<String, CommandFault> {
 /// Plays the script on standard input: status 0, or 1 after the fault and its reason on standard error.
 fn run_script<R: Files + Input + Print + Eprint + AllocGlobal + Clone + Drop>(
     rt: &R,
-    kinds: &[String],
+    kinds: &[Text],
 ) -> io::Result<Ending> {
     let Some(table) = read_kinds(rt, kinds)? else {
         return Ok(Ending::Stopped);
     };
-    let mut reader = KeptLines::new(rt.alloc(), rt.reader());
+    let mut reader = rt.reader();
     let mut writer = BufWriter::new(rt.alloc(), io::writer(rt))?;
     match script_run(
         rt.alloc(),
@@ -122,9 +120,6 @@ fn run_script<R: Files + Input + Print + Eprint + AllocGlobal + Clone + Drop>(
         Ok(()) => Ok(Ending::Done),
         Err(fault) => {
             eprintln!(rt; "{fault}")?;
-            if let ScriptFault::BadLine(_number) = fault {
-                tell_reason(rt, script_reason(rt.alloc(), reader.lines()))?;
-            }
             Ok(Ending::Stopped)
         }
     }

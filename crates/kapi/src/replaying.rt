@@ -20,7 +20,7 @@ pub fn run_replay<R: Files + Input + Print + Eprint + AllocGlobal + Wait + Clone
     options: &ReplayOptions,
 ) -> io::Result<Ending> {
     let mut transcripts = Vec::new(rt.alloc());
-    for name in options.files.iter() {
+    for name in options.files.as_slice() {
         let Some(bytes) = read_file(rt, name.as_str())? else {
             return Ok(Ending::Stopped);
         };

@@ -11,9 +11,8 @@ use kapi_commands::{
     Ending, ReadPolicy, Reason, read_file, read_kinds, read_served, tell_reason, tell_unloaded,
 };
 use kapi_desk::Seat;
-use kapi_loading::{StartError, Started};
+use kapi_loading::{StartError, Started, object_reason};
 use kapi_model::ResourceRow;
-use kapi_reasons::object_reason;
 use kapi_serve::{Sockets, serve_loop};
 use kapi_text::{Sequence, TryCopy};
 use std::alloc::Global;
@@ -59,7 +58,7 @@ pub fn run_serve<
     let Some(table) = read_kinds(rt, options.kinds.as_slice())? else {
         return Ok(Ending::Stopped);
     };
-    let Some(opening) = read_opening(rt, options)? else {
+    let Some(opening) = read_opening(rt, table.as_slice(), options)? else {
         return Ok(Ending::Stopped);
     };
     let first = options.first_revision;
@@ -100,7 +99,7 @@ fn warn_of_options(rt: &impl Eprint, options: &ServeOptions) -> io::Result<()> {
     if options.idle_readers {
         eprintln!(rt; "--readers has no effect without --answer")?;
     }
-    for listen in options.listens.iter() {
+    for listen in options.listens.as_slice() {
         tell_names(rt, listen)?;
     }
     Ok(())
@@ -126,10 +125,11 @@ fn tell_name(rt: &impl Eprint, port: u16, name: &str) -> io::Result<()> {
 /// What a server begins with; none if a file cannot be read, or is no file of manifests.
 fn read_opening<R: Files + Input + Eprint + AllocGlobal + Clone + Drop>(
     rt: &R,
+    table: &[ResourceRow],
     options: &ServeOptions,
 ) -> io::Result<Option<Opening>> {
     if let Some(reading) = &options.manifests {
-        return match read_served(rt, reading)? {
+        return match read_served(rt, table, reading)? {
             Some(policy) => Ok(Some(Opening::Manifests(policy))),
             None => Ok(None),
         };
@@ -227,7 +227,7 @@ fn listen_all<
         + Net<Listener = TcpListener, Stream = TcpStream>
         + 'static,
 >(rt: &R, options: &ServeOptions, seats: Vec<Seat>) -> io::Result<Result<Sockets<R>, Refused>>
-    ensures { IfOk result (λ served. IfOk served (λ s. doors s.listeners.items ≡ doors_of options.now.listens.items)) }
+    ensures { IfOk result (λ served. IfOk served (λ s. doors s.listeners.items ≡ doors_of options.now.listens)) }
 {
     let sockets = match listen(rt, options.listens.as_slice())? {
         Ok(sockets) => sockets,

@@ -20,5 +20,4 @@ pub mod Runs
 pub mod Lists
 pub mod Parted
 pub mod Behind
-pub mod Walked
 pub mod Floatless

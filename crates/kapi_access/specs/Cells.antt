@@ -1,23 +1,15 @@
--- The cells of a line: bytes that are no printable ASCII are escaped.
+-- The cells of rows.
 use Rattle.std.specs.Prelude.{ℕ, ◌==◌, Bool, if◌then◌else◌, List, [], ◌∷◌, ◌++◌, length, codes, decimal}
 use Rattle.std.specs.List.{flat_map, list_any}
-use Rattle.serde_json.specs.Written.{compact_text}
 use Rattle.kapi_model.specs.Kinds.{role_kind_text}
 use Rattle.kapi_model.specs.declared.policy_rule.PolicyRule.{PolicyRule}
 use Rattle.kapi_model.specs.declared.role_ref.RoleRef.{RoleRef}
-use Rattle.kapi_rules.specs.declared.atom.Atom.{Atom}
 use Rattle.kapi_policy.specs.Decided.{Binding}
 use Rattle.kapi_policy.specs.declared.decision.BindingKind.{BindingKind}
 use Rattle.kapi_policy.specs.declared.decision.BindingKind.TheVariants as kind
-use Rattle.kapi_access.specs.Gained.{Gained, GainedRule}
 use Rattle.kapi_access.specs.Questions.{after, before}
-use Rattle.kapi_access.specs.Risks.{is_grave}
-use Rattle.kapi_access.specs.Who.{Way}
 use Rattle.kapi_access.specs.declared.grantee.Grantee.{Grantee}
 use Rattle.kapi_access.specs.declared.grantee.Grantee.TheVariants as grantee
-use Rattle.kapi_lines.specs.Escapes.{escaped}
-use Rattle.kapi_reply.specs.Status.{atom_list}
-use Rattle.kapi_access.specs.declared.table.Cells.{Cells}
 
 -- ---- their words
 
@@ -38,7 +30,15 @@ binding_kind kind.ClusterRoleBinding = codes "ClusterRoleBinding"
 
 -- a kind and a name
 abbrev pub joined : List ℕ → List ℕ → List ℕ
-joined kind name = (kind ++ codes " ") ++ name
+joined kind name = kind ++ (codes " " ++ name)
+
+-- a user or group
+abbrev pub subject_text : Grantee → List ℕ
+subject_text to = joined (subject_kind to) (subject_name to)
+
+-- a namespace, or `*` for all of them
+abbrev pub namespace_text : List ℕ → List ℕ
+namespace_text namespace = if length namespace == 0 then codes "*" else namespace
 
 -- a binding
 abbrev pub binding_text : Binding → List ℕ
@@ -46,11 +46,11 @@ binding_text b = joined (binding_kind b.kind) b.name
 
 -- a rule of a role, by its index
 abbrev pub rule_text : RoleRef → ℕ → List ℕ
-rule_text role rule = (joined (role_kind_text role.kind) role.name ++ codes ", rule ") ++ decimal rule
+rule_text role rule = role_kind_text role.kind ++ (codes " " ++ (role.name ++ (codes ", rule " ++ decimal rule)))
 
 -- a rule of the role of a binding of that kind and name
 abbrev pub text_of_grant : BindingKind → List ℕ → RoleRef → ℕ → List ℕ
-text_of_grant kind name role rule = (joined (binding_kind kind) name ++ codes ", ") ++ rule_text role rule
+text_of_grant kind name role rule = binding_kind kind ++ (codes " " ++ (name ++ (codes ", " ++ rule_text role rule)))
 
 -- a rule of the role of a binding
 abbrev pub by_text : Binding → ℕ → List ℕ
@@ -97,61 +97,3 @@ words_of_rule r = listed r.verbs ++ (32 ∷ (without_comma (targets r) ++ named 
 -- the mark of a rule that gives much
 abbrev pub mark : Bool → List ℕ
 mark grave = if grave then codes "! " else []
-
--- ---- the cells
-
--- a user or group
-abbrev pub subject_cell : Grantee → List ℕ
-subject_cell to = escaped (joined (subject_kind to) (subject_name to))
-
--- a namespace, or `*` for all of them
-abbrev pub namespace_cell : List ℕ → List ℕ
-namespace_cell namespace = if length namespace == 0 then escaped (codes "*") else escaped namespace
-
--- an atom as a JSON list
-abbrev pub atom_cell : Atom → List ℕ
-atom_cell a = escaped (compact_text (atom_list a))
-
--- ---- the lines
-
--- what a subject gains where, and by what
-abbrev pub gain_row : Gained → Cells
-gain_row g = record {
-  first = subject_cell g.to;
-  second = namespace_cell g.binding.namespace;
-  third = atom_cell g.gain;
-  fourth = [];
-  last = escaped (by_text g.binding g.rule);
-}
-
--- what a subject gains by a rule where, and by what
-abbrev pub gained_rule_row : GainedRule → Cells
-gained_rule_row g = record {
-  first = subject_cell g.to;
-  second = namespace_cell g.binding.namespace;
-  third = escaped (mark (is_grave g.gain) ++ words_of_rule g.gain);
-  fourth = [];
-  last = escaped (by_text g.binding g.rule);
-}
-
--- by what a subject may do something where
-abbrev pub way_row : Way → Cells
-way_row w = record {
-  first = subject_cell w.to;
-  second = namespace_cell w.binding.namespace;
-  third = escaped (binding_text w.binding);
-  fourth = [];
-  last = escaped (rule_text w.binding.role w.rule);
-}
-
--- the heads of columns of gains
-abbrev pub gains_head : Cells
-gains_head = record { first = codes "SUBJECT"; second = codes "NAMESPACE"; third = codes "GAINS"; fourth = []; last = codes "BY" }
-
--- the heads of columns of ways
-abbrev pub ways_head : Cells
-ways_head = record { first = codes "SUBJECT"; second = codes "NAMESPACE"; third = codes "BINDING"; fourth = []; last = codes "RULE" }
-
--- members of this group may do everything, without a binding
-abbrev pub masters_row : Cells
-masters_row = record { first = codes "Group system:masters"; second = codes "*"; third = codes "-"; fourth = []; last = codes "everything" }

@@ -10,9 +10,8 @@ pub mod Scoped
 pub mod Given
 pub mod Dangling
 pub mod Together
-pub mod Tables
 pub mod Cells
-pub mod Members
+pub mod Rows
 pub mod Questions
 pub mod Answers
 pub mod Lines

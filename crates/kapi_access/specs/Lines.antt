@@ -1,9 +1,7 @@
 -- The answers to questions of a file, a question a line.
 use Rattle.std.specs.Prelude.{ℕ, List, [], ◌∷◌, ◌++◌, codes, decimal, Option, Some, None, Result, Ok, Err}
-use Rattle.serde_json.specs.Data.{Data, number, object, unsigned, no_members, member}
-use Rattle.serde_json.specs.Written.{compact_text}
 use Rattle.kapi_text.specs.Gives.{◌>>=◌}
-use Rattle.kapi_lines.specs.Escapes.{escaped}
+use Rattle.kapi_report.specs.Reports.{printable}
 use Rattle.kapi_lines.specs.Lines.{NumberedLine}
 use Rattle.kapi_policy.specs.Objects.{PolicyObjects}
 use Rattle.kapi_access.specs.Answers.{who_text}
@@ -23,19 +21,15 @@ abbrev pub fault_told : LineFault → Option LineError
 fault_told (fault.Question n) = Some (no_question n)
 fault_told fault.Memory = None
 
--- the number of a line
-abbrev pub head_tree : NumberedLine → Data
-head_tree l = object (member (codes "line") (number (unsigned l.number)) no_members)
-
 -- a line and its number
 abbrev pub head_words : NumberedLine → List ℕ
-head_words l = codes "line " ++ (decimal l.number ++ (codes ": " ++ (escaped l.text ++ 10 ∷ [])))
+head_words l = codes "line " ++ (decimal l.number ++ (codes ": " ++ (printable l.text ++ 10 ∷ [])))
 
 -- the line that tells which question is answered below it; in Markdown empty lines stand around it
 abbrev pub head : Form → NumberedLine → List ℕ
 head form.Table l = head_words l
 head form.Markdown l = 10 ∷ (head_words l ++ 10 ∷ [])
-head form.Json l = compact_text (head_tree l) ++ 10 ∷ []
+head form.Json l = codes "{\"line\":" ++ (decimal l.number ++ codes "}\n")
 
 -- the answer to a line with its question, or the fault of a line without one
 abbrev pub answered_by : Form → PolicyObjects → NumberedLine → Option Wanted → Result (List ℕ) LineError

@@ -1,29 +1,23 @@
 //! The answers as they are printed.
-ghost use Rattle.std.specs.Prelude.{◌≡◌, ◌++◌, ◌==◌, ◌∷◌, if◌then◌else◌, codes, length, map, not, IfOk, OnOk};
-ghost use Rattle.std.specs.List.{filter, flat_map};
-ghost use Rattle.kapi_access.specs.Gained.{by_rule as by_rule_of, gained};
-ghost use Rattle.kapi_access.specs.Risks.{is_grave as is_grave_rule, risks as risks_of};
-ghost use Rattle.kapi_access.specs.Tables.{table_below, table_in};
+ghost use Rattle.std.specs.Prelude.{◌≡◌, ◌==◌, length, map, not, IfOk};
+ghost use Rattle.kapi_access.specs.Gained.{gained};
+ghost use Rattle.kapi_access.specs.Risks.{risks as risks_of};
 ghost use Rattle.kapi_access.specs.Views.{gain_of, gained_rule_of, way_of};
 ghost use Rattle.kapi_policy.specs.All.{all_bindings};
 ghost use Rattle.kapi_policy.specs.Views.{binding_of};
 ghost use Rattle.kapi_access.specs.Answers as answers;
-ghost use Rattle.kapi_access.specs.Cells as cells;
-ghost use Rattle.kapi_access.specs.Members as members;
 
 use crate::allowed::who;
-use crate::cells::{gain_row, gained_rule_row, gains_head, masters_row, way_row, ways_head};
 use crate::gained::{Gain, compare};
 use crate::gained_rules::{GainedRule, by_rule};
 use crate::grantee::Grantee;
 use crate::identities::Identities;
-use crate::members::{push_gain, push_way};
 use crate::question::Wanted;
 use crate::risky::{is_grave, risks};
-use crate::table::{Cells, push_below, push_table};
 use crate::way::Way;
 use kapi_lines::Form;
 use kapi_policy::{Binding, Policy};
+use kapi_report::{Row, Words, report};
 use kapi_text::Memory;
 use std::alloc::Global;
 
@@ -38,69 +32,38 @@ pub enum Shown {
 
 // ---- gains
 
-fn atom_rows(alloc: Global, gains: &[Gain<'_>]) -> Result<Vec<Cells>, Memory>
-    ensures { IfOk result (λ v. v.items ≡ map cells.gain_row (map gain_of gains.now)) }
+/// The rules that give much, and then the others.
+fn grave_first<'a>(alloc: Global, gains: Vec<GainedRule<'a>>) -> Result<Vec<GainedRule<'a>>, Memory>
+    ensures { IfOk result (λ v. map gained_rule_of v.items ≡ answers.grave_first (map gained_rule_of gains.entry.items)) }
 {
-    let mut rows = Vec::new(alloc);
+    let mut grave = Vec::new(alloc);
+    let mut others = Vec::new(alloc);
     for gain in gains {
-        rows.push(gain_row(alloc, gain)?)?;
-    }
-    Ok(rows)
-}
-
-// The rows of the grave gains, or of the others.
-fn push_rule_rows(
-    alloc: Global,
-    rows: &mut Vec<Cells>,
-    gains: &[GainedRule<'_>],
-    grave: bool,
-) -> Result<(), Memory>
-    ensures { OnOk result (rows.new.items ≡ rows.old.items ++ map cells.gained_rule_row (filter (λ g. if grave then is_grave_rule g.gain else not (is_grave_rule g.gain)) (map gained_rule_of gains.now))) }
-{
-    for gain in gains {
-        if is_grave(&gain.gain) == grave {
-            rows.push(gained_rule_row(alloc, gain)?)?;
+        if is_grave(&gain.gain) {
+            grave.push(gain)?;
+        } else {
+            others.push(gain)?;
         }
     }
-    Ok(())
+    grave.append(&mut others)?;
+    Ok(grave)
 }
 
-fn rule_rows(alloc: Global, gains: Vec<Gain<'_>>) -> Result<Vec<Cells>, Memory>
-    ensures { IfOk result (λ v. v.items ≡ map cells.gained_rule_row (answers.grave_first (by_rule_of (map gain_of gains.entry.items)))) }
+fn gains_report<R: Row>(alloc: Global, form: Form, gains: &[R]) -> Result<Vec<u8>, Memory>
+    ensures { IfOk result (λ v. v.items ≡ answers.gains_report form (map R.told gains.now)) }
 {
-    let list = by_rule(alloc, gains)?;
-    let mut rows = Vec::new(alloc);
-    push_rule_rows(alloc, &mut rows, list.as_slice(), true)?;
-    push_rule_rows(alloc, &mut rows, list.as_slice(), false)?;
-    Ok(rows)
+    let heads = ["SUBJECT", "NAMESPACE", "GAINS", "BY"];
+    report(alloc, form, &heads, "Nobody gains.\n", &[], gains)
 }
 
-fn gains_table(
-    alloc: Global,
-    form: Form,
-    shown: Shown,
-    gains: Vec<Gain<'_>>,
-) -> Result<Vec<u8>, Memory>
-    ensures { IfOk result (λ v. v.items ≡ table_below form (codes "Nobody gains.\n") cells.gains_head (answers.gain_rows shown (map gain_of gains.entry.items))) }
+// As JSON all atoms are told.
+fn shown_in(form: Form, shown: Shown) -> Shown
+    ensures { result ≡ answers.shown_in form shown }
 {
-    let rows = match shown {
-        Shown::Rules => rule_rows(alloc, gains)?,
-        Shown::Atoms => atom_rows(alloc, gains.as_slice())?,
-    };
-    let head = gains_head(alloc)?;
-    let mut text = Vec::new(alloc);
-    push_below(alloc, form, &mut text, b"Nobody gains.\n", head, rows)?;
-    Ok(text)
-}
-
-fn gain_lines(alloc: Global, gains: &[Gain<'_>]) -> Result<Vec<u8>, Memory>
-    ensures { IfOk result (λ v. v.items ≡ flat_map members.gain_line (map gain_of gains.now)) }
-{
-    let mut text = Vec::new(alloc);
-    for gain in gains {
-        push_gain(alloc, &mut text, gain)?;
+    match form {
+        Form::Json => Shown::Atoms,
+        Form::Table | Form::Markdown => shown,
     }
-    Ok(text)
 }
 
 fn gains_text(
@@ -111,10 +74,12 @@ fn gains_text(
 ) -> Result<Vec<u8>, Memory>
     ensures { IfOk result (λ v. v.items ≡ answers.gains_text form shown (map gain_of gains.entry.items)) }
 {
-    match form {
-        Form::Table => gains_table(alloc, Form::Table, shown, gains),
-        Form::Markdown => gains_table(alloc, Form::Markdown, shown, gains),
-        Form::Json => gain_lines(alloc, gains.as_slice()),
+    match shown_in(form, shown) {
+        Shown::Atoms => gains_report(alloc, form, gains.as_slice()),
+        Shown::Rules => {
+            let rules = grave_first(alloc, by_rule(alloc, gains)?)?;
+            gains_report(alloc, form, rules.as_slice())
+        }
     }
 }
 
@@ -151,47 +116,8 @@ pub fn answer_compare<P: Policy, Q: Policy>(
 
 // ---- ways
 
-fn way_rows(alloc: Global, ways: &[Way<'_>]) -> Result<Vec<Cells>, Memory>
-    ensures { IfOk result (λ v. v.items ≡ cells.ways_head ∷ cells.masters_row ∷ map cells.way_row (map way_of ways.now)) }
-{
-    let mut rows = Vec::new(alloc);
-    rows.push(ways_head(alloc)?)?;
-    rows.push(masters_row(alloc)?)?;
-    for way in ways {
-        rows.push(way_row(alloc, way)?)?;
-    }
-    Ok(rows)
-}
-
-fn push_ways(alloc: Global, text: &mut Vec<u8>, ways: &[Way<'_>]) -> Result<(), Memory>
-    ensures { OnOk result (text.new.items ≡ text.old.items ++ flat_map members.way_line (map way_of ways.now)) }
-{
-    for way in ways {
-        push_way(alloc, text, way)?;
-    }
-    Ok(())
-}
-
-/// The line of the group whose members may do everything.
-pub const MASTERS_LINE: &[u8] = b"{\"subject\":\"system:masters\",\"subjectKind\":\"Group\"}\n";
-
-fn ways_table(alloc: Global, form: Form, ways: &[Way<'_>]) -> Result<Vec<u8>, Memory>
-    ensures { IfOk result (λ v. v.items ≡ table_in form (cells.ways_head ∷ cells.masters_row ∷ map cells.way_row (map way_of ways.now))) }
-{
-    let mut text = Vec::new(alloc);
-    let rows = way_rows(alloc, ways)?;
-    push_table(alloc, form, &mut text, rows.as_slice())?;
-    Ok(text)
-}
-
-fn way_lines(alloc: Global, ways: &[Way<'_>]) -> Result<Vec<u8>, Memory>
-    ensures { IfOk result (λ v. v.items ≡ answers.masters_line ++ flat_map members.way_line (map way_of ways.now)) }
-{
-    let mut text = Vec::new(alloc);
-    text.extend_from_slice(MASTERS_LINE)?;
-    push_ways(alloc, &mut text, ways)?;
-    Ok(text)
-}
+/// The group whose members may do everything, as JSON.
+pub const MASTERS_OBJECT: &str = "{\"subject\":\"system:masters\",\"subjectKind\":\"Group\"}";
 
 fn is_masters(to: &Grantee) -> bool
     ensures { result ≡ answers.is_masters to.now }
@@ -217,12 +143,13 @@ fn besides_masters<'a>(alloc: Global, ways: Vec<Way<'a>>) -> Result<Vec<Way<'a>>
 fn ways_text(alloc: Global, form: Form, ways: Vec<Way<'_>>) -> Result<Vec<u8>, Memory>
     ensures { IfOk result (λ v. v.items ≡ answers.ways_text form (map way_of ways.entry.items)) }
 {
+    let heads = ["SUBJECT", "NAMESPACE", "BINDING", "RULE"];
+    let masters = Words {
+        cells: &["Group system:masters", "*", "-", "everything"],
+        object: MASTERS_OBJECT,
+    };
     let others = besides_masters(alloc, ways)?;
-    match form {
-        Form::Table => ways_table(alloc, Form::Table, others.as_slice()),
-        Form::Markdown => ways_table(alloc, Form::Markdown, others.as_slice()),
-        Form::Json => way_lines(alloc, others.as_slice()),
-    }
+    report(alloc, form, &heads, "", &[masters], others.as_slice())
 }
 
 /// Who may do what is asked, given all bindings of the policy: a line for each user and group and each binding by which it may.

@@ -17,12 +17,11 @@ mod identities;
 mod joining;
 pub mod laws;
 mod lines;
-mod members;
 mod question;
 mod rights;
 mod risky;
+mod rows;
 mod scoped;
-mod table;
 mod way;
 
 pub use allowed::who;

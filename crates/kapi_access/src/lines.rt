@@ -1,8 +1,6 @@
 //! Questions of a file, a question a line.
 ghost use Rattle.std.specs.Prelude.{◌≡◌, ◌++◌, IfOk, OnOk, map};
-ghost use Rattle.serde_json.specs.View.{view};
 ghost use Rattle.kapi_text.specs.Gives.{Gives};
-ghost use Rattle.kapi_lines.specs.Escapes.{escaped};
 ghost use Rattle.kapi_lines.specs.Lines.{line_of};
 ghost use Rattle.kapi_policy.specs.All.{all_bindings};
 ghost use Rattle.kapi_policy.specs.Views.{binding_of};
@@ -12,11 +10,11 @@ ghost use Rattle.kapi_access.specs.Answers.{who_text};
 
 use crate::answer::answer_who;
 use crate::question::{Wanted, read_question_line};
-use kapi_lines::{Form, Line, write_escaped};
+use kapi_lines::{Form, Line};
 use kapi_policy::{Binding, Policy};
+use kapi_report::escape;
 use kapi_text::Memory;
-use serde_json::{Value, json};
-use std::alloc::{AllocError, Global};
+use std::alloc::Global;
 
 /// Why lines have no answer.
 #[derive(Clone, Copy, PartialEq, Eq)]
@@ -37,38 +35,12 @@ impl From<Memory> for LineFault {
     }
 }
 
-fn push_escaped(text: &mut Vec<u8>, bytes: &[u8]) -> Result<(), Memory>
-    ensures { OnOk result (text.new.items ≡ text.old.items ++ escaped bytes.now) }
-{
-    match write_escaped(text, bytes) {
-        Ok(()) => Ok(()),
-        Err(_refused) => Err(AllocError),
-    }
-}
-
 fn push_head_text(alloc: Global, text: &mut Vec<u8>, line: &Line<'_>) -> Result<(), Memory>
     ensures { OnOk result (text.new.items ≡ text.old.items ++ told.head_words (line_of line.now)) }
 {
     let number = line.number;
-    let number = format!(in alloc; "{number}")?;
-    text.extend_from_slice(b"line ")?;
-    text.extend_from_slice(number.as_bytes())?;
-    text.extend_from_slice(b": ")?;
-    push_escaped(text, line.text)?;
-    text.extend_from_slice(b"\n")
-}
-
-fn head_tree(alloc: Global, line: &Line<'_>) -> Result<Value, Memory>
-    ensures { IfOk result (λ v. view v ≡ told.head_tree (line_of line.now)) }
-{
-    json!(in alloc; {"line": (line.number as u64)})
-}
-
-fn push_head_object(alloc: Global, text: &mut Vec<u8>, line: &Line<'_>) -> Result<(), Memory>
-    ensures { OnOk result (text.new.items ≡ text.old.items ++ told.head Form.Json (line_of line.now)) }
-{
-    let head = head_tree(alloc, line)?.to_vec(alloc)?;
-    text.extend_from_slice(head.as_slice())?;
+    text.extend_from_slice(format!(in alloc; "line {number}: ")?.as_bytes())?;
+    text.extend_from_slice(escape(alloc, line.text)?.as_slice())?;
     text.extend_from_slice(b"\n")
 }
 
@@ -83,7 +55,10 @@ fn push_head(alloc: Global, form: Form, text: &mut Vec<u8>, line: &Line<'_>) -> 
             push_head_text(alloc, text, line)?;
             text.extend_from_slice(b"\n")
         }
-        Form::Json => push_head_object(alloc, text, line),
+        Form::Json => {
+            let number = line.number;
+            text.extend_from_slice(format!(in alloc; "{{\"line\":{number}}}\n")?.as_bytes())
+        }
     }
 }
 

@@ -11,13 +11,15 @@ use Rattle.kapi_model.specs.Names.{is_name_on}
 use Rattle.kapi_model.specs.declared.fault.FieldFault.{FieldFault}
 use Rattle.kapi_model.specs.declared.row.ResourceRow.{ResourceRow}
 use Rattle.kapi_object.specs.Given.{given_of}
-use Rattle.kapi_object.specs.Tree.{json_object}
 use Rattle.kapi_object.specs.declared.given.Given.{Given}
 use Rattle.kapi_object.specs.declared.given.GivenText.{GivenText}
 use Rattle.kapi_object.specs.declared.given.GivenText.TheVariants as given
 use Rattle.kapi_object.specs.Merge.{merged}
 use Rattle.kapi_policy.specs.Objects.{PolicyObjects}
 use Rattle.kapi_model.specs.declared.identity.Identity.{Identity}
+use Rattle.kapi_reply.specs.Refusals.{asked_for}
+use Rattle.kapi_reply.specs.declared.refusal.BadRequestReason.TheVariants as word
+use Rattle.kapi_reply.specs.declared.refusal.Refusal.TheVariants as refusal
 use Rattle.kapi_reply.specs.declared.refusal.Refused.{Refused}
 use Rattle.kapi_request_info.specs.Attributes.{info}
 use Rattle.kapi_request_info.specs.Faults.{TargetFault}
@@ -52,7 +54,7 @@ use Rattle.kapi_answer.specs.Get.{found, found_if}
 use Rattle.kapi_answer.specs.Impersonation.{made_as}
 use Rattle.kapi_answer.specs.Histories.{AreNamed, AnswersWrite, IsWrite, LoadsCreate}
 use Rattle.kapi_answer.specs.Histories as write
-use Rattle.kapi_answer.specs.Load.{LoadFault, bad_object, is_kept_kind, loads, made, named_namespace, namespace_in, on_load, to_create_tree, to_load, unknown_kind}
+use Rattle.kapi_answer.specs.Load.{LoadFault, creates_named, is_kept_kind, loads, named_namespace, namespace_in, on_load, to_named}
 use Rattle.kapi_answer.specs.Response.{Response}
 use Rattle.kapi_answer.specs.Review.{review_kind, to_review}
 use Rattle.kapi_answer.specs.Update.{in_name, patch_of, replaces, to_patch, to_replace, to_update, told_after}
@@ -67,10 +69,6 @@ then_is (Err e) f P h = tt
 stored_ok : {X : Type 0} (name : List ℕ) (r : Result X StoreFault) (x : X) → stored name r ≡ Ok x → r ≡ Ok x
 stored_ok name (Ok y) x is = let same : y ≡ x = cc in ap Ok same
 stored_ok name (Err fault) x is = absurd (cc is)
-
-made_ok : {X : Type 0} (r : Result X StoreFault) (x : X) → made r ≡ Ok x → r ≡ Ok x
-made_ok (Ok y) x is = let same : y ≡ x = cc in ap Ok same
-made_ok (Err fault) x is = absurd (cc is)
 
 -- ---- a body
 
@@ -334,38 +332,41 @@ answers_write objects s identity (Err fault) h = write.nothing refl
 
 -- ---- what is loaded
 
-load_home : (b : Bool) (o : Option (List ℕ)) (namespace : List ℕ) → ok_or (if b then o else Some []) bad_object ≡ Ok namespace → (if b then namespace else []) ≡ namespace
-load_home true o namespace is = refl
-load_home false o namespace is = let same : [] ≡ namespace = cc in same
+load_home : (b : Bool) (o : Option (List ℕ)) (fault : Refused) (namespace : List ℕ) → ok_or (if b then o else Some []) fault ≡ Ok namespace → (if b then namespace else []) ≡ namespace
+load_home true o fault namespace is = refl
+load_home false o fault namespace is = let same : [] ≡ namespace = cc in same
 
-row_home : (row : ResourceRow) (given : GivenText) (namespace : List ℕ) → ok_or (namespace_in row given) bad_object ≡ Ok namespace → IsHome row namespace
+row_home : (row : ResourceRow) (given : GivenText) (fault : Refused) (namespace : List ℕ) → ok_or (namespace_in row given) fault ≡ Ok namespace → IsHome row namespace
 unfolding namespace_in
-row_home row given namespace is = load_home row.namespaced (named_namespace given) namespace is
+row_home row given fault namespace is = load_home row.namespaced (named_namespace given) fault namespace is
+
+named_new : (s : Plain) (tree : Data) → IfOk (to_named s tree) (IsNew s)
+unfolding to_named
+named_new s tree =
+    then_holds (ok_or (find (is_kept_kind tree) s.table) (asked_for refusal.NoSuchResource)) _ (IsNew s)
+    (λ row. then_is (ok_or (namespace_in row (given_of tree).namespace) (asked_for (refusal.BadRequest word.Namespace))) _ (IsNew s)
+    (λ namespace is.
+    then_keeps (admitted_from (read_as row (Some tree))) (to_place s row namespace) (IsNew s) (body_told (read_as row (Some tree)))
+    (λ body told_it. place_new s row namespace body (row_home row (given_of tree).namespace _ namespace is) told_it)))
+
+named_creation : (s : Plain) (text : List ℕ) → IfOk (creates_named s text) (IsCreation s)
+unfolding creates_named
+named_creation s text =
+    then_holds (patch_of text) _ (IsCreation s)
+    (λ tree. then_keeps (to_named s tree) _ (IsCreation s) (named_new s tree)
+    (λ new n. made_creation new n (creation_in_place s new.0 new.1) refl))
+  where
+    made_creation : (new : Key × Data) → IsNew s new → (r : Result (List PlainChange) StoreFault) → creation_in_place s new.0 new.1 ≡ r → IfOk (stored new.0.name r) (IsCreation s)
+    made_creation new n (Ok cs) is = (new.0, new.1, n.1, ap (λ q. q >>= λ _. creation_in_place s new.0 new.1) n.0 ∙ is)
+    made_creation new n (Err fault) is = tt
 
 on_load_keeps : {X : Type 0} (r : Result X Refused) (P : X → Type 0) → IfOk r P → IfOk (on_load r) P
 on_load_keeps (Ok x) P h = h
 on_load_keeps (Err refused) P h = tt
 
-load_new : (s : Plain) (tree : Data) → IfOk (to_load s tree) (IsNew s)
-unfolding to_load
-load_new s tree =
-    then_holds (ok_or (find (is_kept_kind tree) s.table) unknown_kind) _ (IsNew s)
-    (λ row. then_is (ok_or (namespace_in row (given_of tree).namespace) bad_object) _ (IsNew s)
-    (λ namespace is.
-    on_load_keeps (to_create_tree s row namespace tree) (IsNew s)
-    (then_keeps (admitted_from (read_as row (Some tree))) (to_place s row namespace) (IsNew s) (body_told (read_as row (Some tree)))
-    (λ body told_it. place_new s row namespace body (row_home row (given_of tree).namespace namespace is) told_it))))
-
 loads_creation : (s : Plain) (text : List ℕ) → IfOk (loads s text) (IsCreation s)
 unfolding loads
-loads_creation s text =
-    then_holds (ok_or (json_object text) bad_object) _ (IsCreation s)
-    (λ tree. then_keeps (to_load s tree) _ (IsCreation s) (load_new s tree)
-    (λ new n. made_creation new n (creation_in_place s new.0 new.1) refl))
-  where
-    made_creation : (new : Key × Data) → IsNew s new → (r : Result (List PlainChange) StoreFault) → creation_in_place s new.0 new.1 ≡ r → IfOk (made r) (IsCreation s)
-    made_creation new n (Ok cs) is = (new.0, new.1, n.1, ap (λ q. q >>= λ _. creation_in_place s new.0 new.1) n.0 ∙ is)
-    made_creation new n (Err fault) is = tt
+loads_creation s text = on_load_keeps (creates_named s text) (IsCreation s) (named_creation s text)
 
 -- the changes of every object that is loaded are those of a creation
 pub loads_create : LoadsCreate

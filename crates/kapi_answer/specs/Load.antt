@@ -7,32 +7,33 @@ use Rattle.serde_json.specs.Find.{get}
 use Rattle.kapi_text.specs.Gives.{◌>>=◌}
 use Rattle.kapi_model.specs.declared.row.ResourceRow.{ResourceRow}
 use Rattle.kapi_object.specs.Given.{given_of}
-use Rattle.kapi_object.specs.Tree.{json_object}
 use Rattle.kapi_object.specs.declared.given.GivenText.{GivenText}
 use Rattle.kapi_object.specs.declared.given.GivenText.TheVariants as given
 use Rattle.kapi_object.specs.Admission.{read_as, version_of}
+use Rattle.kapi_reply.specs.Refusals.{asked_for}
+use Rattle.kapi_reply.specs.declared.refusal.BadRequestReason.TheVariants as word
 use Rattle.kapi_reply.specs.declared.refusal.Refusal.{Refusal}
 use Rattle.kapi_reply.specs.declared.refusal.Refusal.TheVariants as refusal
 use Rattle.kapi_reply.specs.declared.refusal.Refused.{Refused}
-use Rattle.kapi_store.specs.Faults.{StoreFault}
 use Rattle.kapi_store.specs.Plain.{Plain, PlainChange, creation_in_place}
 use Rattle.kapi_store.specs.declared.key.Key.{Key}
-use Rattle.kapi_answer.specs.Create.{admitted_from, to_place}
+use Rattle.kapi_answer.specs.Create.{admitted_from, stored, to_place}
 use Rattle.kapi_answer.specs.Review.{review_kind}
+use Rattle.kapi_answer.specs.Update.{patch_of}
 use Rattle.kapi_answer.specs.declared.loading.LoadError.{LoadError}
 use Rattle.kapi_answer.specs.declared.loading.LoadError.TheVariants as error
 
--- why an object is not loaded
+-- why an object is not loaded: its kind is not served, or its creation is refused, for the object or by the store
 pub data LoadFault : Type 0 where
   unknown_kind : LoadFault
-  bad_object : LoadFault
-  not_stored : LoadFault
+  bad_object : Refused → LoadFault
+  not_stored : Refused → LoadFault
 
 -- the fault that an error reports; running out of memory is none
 abbrev pub fault_told : LoadError → Option LoadFault
 fault_told error.UnknownKind = Some unknown_kind
-fault_told error.Object = Some bad_object
-fault_told error.Store = Some not_stored
+fault_told (error.Object refused) = Some (bad_object refused)
+fault_told (error.Store refused) = Some (not_stored refused)
 fault_told error.Memory = None
 
 -- the value is the text
@@ -59,37 +60,34 @@ named_namespace (given.Text text) = if length text == 0 then None else Some text
 unfoldable pub namespace_in : ResourceRow → GivenText → Option (List ℕ)
 namespace_in row given = if row.namespaced then named_namespace given else Some []
 
--- why an object is not loaded whose creation is refused for this reason
-unfoldable pub fault_for : Refusal → LoadFault
-fault_for (refusal.NotFound sought) = not_stored
-fault_for refusal.AlreadyExists = not_stored
-fault_for refusal.NoRevisionLeft = not_stored
-fault_for _ = bad_object
+-- the place and the tree of the object that a tree is, by the checks of its creation at the place that it names
+unfoldable pub to_named : Plain → Data → Result (Key × Data) Refused
+to_named s tree = do
+  row ← ok_or (find (is_kept_kind tree) s.table) (asked_for refusal.NoSuchResource)
+  namespace ← ok_or (namespace_in row (given_of tree).namespace) (asked_for (refusal.BadRequest word.Namespace))
+  body ← admitted_from (read_as row (Some tree))
+  to_place s row namespace body
 
--- the result of the creation's checks, with a refusal as a load fault
+-- the changes that the creation of the object in a text makes, or its refusal
+unfoldable pub creates_named : Plain → List ℕ → Result (List PlainChange) Refused
+creates_named s text = do
+  tree ← patch_of text
+  new ← to_named s tree
+  stored new.0.name (creation_in_place s new.0 new.1)
+
+-- why an object is not loaded whose creation is refused so, for this reason
+unfoldable pub fault_for : Refusal → Refused → LoadFault
+fault_for refusal.NoSuchResource refused = unknown_kind
+fault_for (refusal.NotFound sought) refused = not_stored refused
+fault_for refusal.AlreadyExists refused = not_stored refused
+fault_for refusal.NoRevisionLeft refused = not_stored refused
+fault_for _ refused = bad_object refused
+
+-- the result of a creation, with its refusal as a load fault
 abbrev pub on_load : {X : Type 0} → Result X Refused → Result X LoadFault
 on_load (Ok x) = Ok x
-on_load (Err refused) = Err (fault_for refused.why)
+on_load (Err refused) = Err (fault_for refused.why refused)
 
--- the creation's checks of a tree of a resource type and in a namespace
-abbrev pub to_create_tree : Plain → ResourceRow → List ℕ → Data → Result (Key × Data) Refused
-to_create_tree s row namespace tree = admitted_from (read_as row (Some tree)) >>= to_place s row namespace
-
--- the place and the tree of the object that a tree is
-unfoldable pub to_load : Plain → Data → Result (Key × Data) LoadFault
-to_load s tree = do
-  row ← ok_or (find (is_kept_kind tree) s.table) unknown_kind
-  namespace ← ok_or (namespace_in row (given_of tree).namespace) bad_object
-  on_load (to_create_tree s row namespace tree)
-
--- the store's result, with a store fault as a load fault
-abbrev pub made : {X : Type 0} → Result X StoreFault → Result X LoadFault
-made (Ok x) = Ok x
-made (Err fault) = Err not_stored
-
--- the changes that the loading of a text makes
+-- the changes that the loading of a text makes: those of its creation
 unfoldable pub loads : Plain → List ℕ → Result (List PlainChange) LoadFault
-loads s text = do
-  tree ← ok_or (json_object text) bad_object
-  new ← to_load s tree
-  made (creation_in_place s new.0 new.1)
+loads s text = on_load (creates_named s text)

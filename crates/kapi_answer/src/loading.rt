@@ -1,5 +1,5 @@
 //! Loading the objects that a server begins with.
-ghost use Rattle.std.specs.Prelude.{◌≡◌, ◌≤◌, ◌&&◌, Ok, Some, true, not, is_some, IfOk, map as map_of, ok_or, option_map};
+ghost use Rattle.std.specs.Prelude.{◌≡◌, ◌≤◌, ◌&&◌, Ok, Some, true, not, is_some, IfOk, map as map_of, option_map};
 ghost use Rattle.std.specs.Option.{option_copied};
 ghost use Rattle.std.specs.List.{find};
 ghost use Rattle.std.specs.Str.{bytes_eq};
@@ -9,41 +9,36 @@ ghost use Rattle.serde_json.specs.View.{view};
 ghost use Rattle.kapi_text.specs.Gives.{Gives};
 ghost use Rattle.kapi_object.specs.Admission.{version_of};
 ghost use Rattle.kapi_object.specs.Order.{is_ordered};
-ghost use Rattle.kapi_object.specs.Tree.{json_object};
 ghost use Rattle.kapi_store.specs.Plain.{free_place, plain_change, plain_of};
 ghost use Rattle.kapi_store.specs.State.{Same, Fits};
 ghost use Rattle.kapi_answer.specs.Load as loading;
 ghost use Rattle.kapi_answer.specs.Review as reviews;
-ghost use Rattle.kapi_answer.specs.Load.{bad_object, fault_for, fault_told, is_text, loads, on_load, to_create_tree, to_load};
+ghost use Rattle.kapi_answer.specs.Load.{creates_named, fault_for, fault_told, is_text, loads, to_named};
 ghost use Rattle.kapi_answer.specs.Responses.{new_data};
 ghost use Rattle.kapi_reply.specs.Refusals.{refused_by};
 
-use crate::create::{admit, check_body};
+use crate::create::{admit, bad_request, check_body, refused_by_store};
 use crate::response::NewObject;
 use crate::review::review_kind;
+use crate::update::read_json;
 use kapi_model::ResourceRow;
+use kapi_object::GivenText;
 use kapi_object::given::given_at;
-use kapi_object::{GivenText, ObjectError, read_tree};
-use kapi_reply::{CheckError, Refusal};
-use kapi_store::{Ready, Store, StoreError};
-use kapi_text::{Memory, is_joined};
+use kapi_reply::{BadRequestReason, CheckError, Refusal, Refused};
+use kapi_store::{Ready, Store};
+use kapi_text::{Memory, TryCopy, is_joined};
 use serde_json::Value;
 use std::alloc::Global;
-use thiserror::Error;
 
-/// Why an object is not loaded.
-#[derive(Clone, Copy, Debug, PartialEq, Eq, Error)]
+/// Why an object is not loaded, with the refusal that a server answers to its creation.
+#[derive(Drop)]
 pub enum LoadError {
     /// The object names no version and kind that are served.
-    #[error("no such version and kind")]
     UnknownKind,
     /// The text is no JSON object, or one with a fault, or names no place.
-    #[error("no object that could be created")]
-    Object,
+    Object(Refused),
     /// The object's namespace does not exist, its place is taken, or no revision is left.
-    #[error("the object cannot be stored")]
-    Store,
-    #[error("out of memory")]
+    Store(Refused),
     Memory,
 }
 
@@ -65,90 +60,59 @@ pub fn load(alloc: Global, store: &mut Store, text: &[u8]) -> Result<Ready, Load
     ensures gives { Gives fault_told (map_of plain_change) result (loads (plain_of store.old) text.now) }
     ensures fits { IfOk result (Fits store.new) }
 {
-    let tree = read(alloc, text)?;
-    let new = check_load(alloc, store, tree)?;
-    match store.create_in_place(new.key, new.object) {
+    match create_named(alloc, store, text) {
         Ok(ready) => Ok(ready),
-        Err(StoreError::Memory) => Err(LoadError::Memory),
-        Err(_refused) => Err(LoadError::Store),
-    }
-}
-
-/// The JSON object that a text is.
-fn read(alloc: Global, text: &[u8]) -> Result<Value, LoadError>
-    ensures object { Gives fault_told view result (ok_or (json_object text.now) bad_object) }
-    ensures ordered { IfOk result (λ v. is_ordered (view v) ≡ true) }
-    ensures nests { IfOk result (λ v. depth (view v) ≤ max_depth) }
-{
-    match read_tree(alloc, text) {
-        Ok(tree) => Ok(tree),
-        Err(ObjectError::Memory) => Err(LoadError::Memory),
-        Err(_other) => Err(LoadError::Object),
-    }
-}
-
-/// The object that a tree is, if it could be created, and its place.
-#[tactic(auto, unfolding(crate::specs::Load::to_load))]
-fn check_load(alloc: Global, store: &Store, tree: Value) -> Result<NewObject, LoadError>
-    requires ordered { is_ordered (view tree) ≡ true }
-    requires nests { depth (view tree) ≤ max_depth }
-    ensures gives { Gives fault_told new_data result (to_load (plain_of store.now) (view tree)) }
-    ensures free { IfOk result (λ new. free_place (plain_of store.now) new.key ≡ Ok tt) }
-{
-    let Some(row) = find_row(store.table(), &tree) else {
-        return Err(LoadError::UnknownKind);
-    };
-    let given = given_at(alloc, &tree, "namespace")?;
-    match namespace_in(row, &given) {
-        Some(namespace) => check_on(alloc, store, row, namespace, tree),
-        None => Err(LoadError::Object),
-    }
-}
-
-/// The checks of a creation for a resource type and in a namespace.
-fn check_on(
-    alloc: Global,
-    store: &Store,
-    row: &ResourceRow,
-    namespace: &str,
-    tree: Value,
-) -> Result<NewObject, LoadError>
-    requires ordered { is_ordered (view tree) ≡ true }
-    requires nests { depth (view tree) ≤ max_depth }
-    ensures gives { Gives fault_told new_data result (on_load (to_create_tree (plain_of store.now) row.now namespace.now (view tree))) }
-    ensures free { IfOk result (λ new. free_place (plain_of store.now) new.key ≡ Ok tt) }
-{
-    match check_tree(alloc, store, row, namespace, tree) {
-        Ok(new) => Ok(new),
-        Err(CheckError::Refused(refused)) => Err(error_for(&refused.why)),
+        Err(CheckError::Refused(refused)) => Err(error_for(refused)),
         Err(CheckError::Memory) => Err(LoadError::Memory),
     }
 }
 
-fn check_tree(
-    alloc: Global,
-    store: &Store,
-    row: &ResourceRow,
-    namespace: &str,
-    tree: Value,
-) -> Result<NewObject, CheckError>
+/// Prepares the creation of the object in a text, or refuses it as a server does.
+#[tactic(auto, unfolding(crate::specs::Load::creates_named))]
+fn create_named(alloc: Global, store: &mut Store, text: &[u8]) -> Result<Ready, CheckError>
+    ensures same { Same store.old store.new }
+    ensures gives { Gives refused_by (map_of plain_change) result (creates_named (plain_of store.old) text.now) }
+    ensures fits { IfOk result (Fits store.new) }
+{
+    let tree = read_json(alloc, text)?;
+    let new = check_named(alloc, store, tree)?;
+    let name = new.key.name.copy(alloc)?;
+    match store.create_in_place(new.key, new.object) {
+        Ok(ready) => Ok(ready),
+        Err(error) => Err(refused_by_store(name, error)),
+    }
+}
+
+/// The object that a tree is, if it could be created, and its place.
+#[tactic(auto, unfolding(crate::specs::Load::to_named))]
+fn check_named(alloc: Global, store: &Store, tree: Value) -> Result<NewObject, CheckError>
     requires ordered { is_ordered (view tree) ≡ true }
     requires nests { depth (view tree) ≤ max_depth }
-    ensures gives { Gives refused_by new_data result (to_create_tree (plain_of store.now) row.now namespace.now (view tree)) }
+    ensures gives { Gives refused_by new_data result (to_named (plain_of store.now) (view tree)) }
     ensures free { IfOk result (λ new. free_place (plain_of store.now) new.key ≡ Ok tt) }
 {
+    let Some(row) = find_row(store.table(), &tree) else {
+        return Err(CheckError::Refused(Refused::asked_for(Refusal::NoSuchResource)));
+    };
+    let given = given_at(alloc, &tree, "namespace")?;
+    let Some(namespace) = namespace_in(row, &given) else {
+        return Err(bad_request(BadRequestReason::Namespace));
+    };
     let body = admit(alloc, row, tree)?;
     check_body(alloc, store, row, namespace, body)
 }
 
-/// Why an object is not loaded whose creation is refused for this reason.
+/// Why an object is not loaded whose creation is refused so.
 #[tactic(auto, unfolding(crate::specs::Load::fault_for))]
-fn error_for(why: &Refusal) -> LoadError
-    ensures { fault_told result ≡ Some (fault_for why.now) }
+fn error_for(refused: Refused) -> LoadError
+    ensures { fault_told result ≡ Some (fault_for refused.why refused) }
 {
-    match why {
-        Refusal::NotFound(_) | Refusal::AlreadyExists | Refusal::NoRevisionLeft => LoadError::Store,
-        _ => LoadError::Object,
+    match &refused.why {
+        Refusal::NoSuchResource => LoadError::UnknownKind,
+        Refusal::NotFound(_) | Refusal::AlreadyExists | Refusal::NoRevisionLeft => {
+            LoadError::Store(refused)
+        }
+        _ => LoadError::Object(refused),
     }
 }
 

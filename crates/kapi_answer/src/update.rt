@@ -64,13 +64,14 @@ pub fn check_patch(
     ensures gives { Gives refused_by (λ r. new_data r.new) result (to_patch (plain_of store.now) row.now part key body.now) }
     ensures stands { IfOk result (IsReplaced (plain_of store.now)) }
 {
-    let patch = read_patch(alloc, body)?;
+    let patch = read_json(alloc, body)?;
     let merged = merge(alloc, existing(store, &key)?, &patch)?;
     let body = admit(alloc, row, merged)?;
     check_replacement(alloc, store, row, part, key, body)
 }
 
-fn read_patch(alloc: Global, body: &[u8]) -> Result<Value, CheckError>
+/// The JSON object that a body is.
+pub fn read_json(alloc: Global, body: &[u8]) -> Result<Value, CheckError>
     ensures gives { Gives refused_by view result (patch_of body.now) }
     ensures ordered { IfOk result (λ v. is_ordered (view v) ≡ true) }
     ensures nests { IfOk result (λ v. depth (view v) ≤ max_depth) }

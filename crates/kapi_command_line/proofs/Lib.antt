@@ -1,2 +1,4 @@
 pub mod Values
 pub mod Parsed
+pub mod Table
+pub mod Bounded

@@ -13,11 +13,12 @@ use Rattle.clap.specs.declared.error.kind.ErrorKind.{ErrorKind}
 use Rattle.clap.specs.declared.error.kind.ErrorKind.TheVariants.{DisplayHelp, DisplayVersion, OutOfMemory}
 use Rattle.clap.specs.declared.parser.matches.ArgMatches.{ArgMatches}
 use Rattle.clap.proofs.OnLiterals.{clap_on_literals}
-use Rattle.kapi_command_line.specs.Asked.{AreWrong, Ask, Asked, Names, Reads, Shows, asked, asked_by, asking_in, compare_in, files_in, is_shown, kinds_in, options_in, paths_in, suggest_in, told, transcripts_in, what_in, who_in}
-use Rattle.kapi_command_line.specs.Asked.{AskPaths, AskRisks, AskWhat, AskWho, Audit, Check, Compare, Replay, Script, Serve, Show, Suggest}
+use Rattle.kapi_command_line.specs.Asked.{AreWrong, Names, Reads, Shows, asked, asked_by, asking_in, audit_in, compare_in, each, is_shown, paths_in, serve_in, suggest_in, what_in, who_in}
 use Rattle.kapi_command_line.specs.CommandLine.{kapi}
 use Rattle.kapi_command_line.specs.declared.program.Command.{Command}
-use Rattle.kapi_command_line.specs.declared.program.Command.TheVariants as command
+use Rattle.kapi_command_line.specs.declared.program.Command.TheVariants.{Audit, Check, Compare, Paths, Replay, Risks, Script, Serve, Show, Suggest, What, Who}
+use Rattle.kapi_command_line.specs.declared.program.Asking.{Asking}
+use Rattle.clap.specs.declared.error.Error.{Error}
 use Rattle.kapi_command_line.specs.declared.program.CommandFault.{CommandFault}
 use Rattle.kapi_command_line.specs.declared.program.CommandFault.TheVariants as fault
 
@@ -31,7 +32,7 @@ kapi_is_free = refl
 
 -- ---- a parse that succeeds
 
-abbrev pub given : ArgMatches → Option Asked
+abbrev pub given : ArgMatches → Option Command
 given m = option_and_then (λ p. asked_by p.0 p.1) (subcommand_rows_of m)
 
 pub faultless : (a : App) (words : List Text) → a ≡ kapi → (is_simple_and_free a ≡ true → fault_of a words ≡ []) → fault_of kapi words ≡ []
@@ -44,54 +45,54 @@ asked_of a words m e none rows =
     let same : subcommand_rows_of m ≡ subcommand_of kapi words = (rows (ap is_simple e ∙ kapi_is_simple)).1 ∙ ap (λ x. subcommand_of x words) e in
     rw (faultless a words e none, same) refl
 
-never_some : {X : Type 0} (f : X → Asked) → ((x : X) (k : ErrorKind) → f x ≡ Show k → ⊥) → (o : Option X) (k : ErrorKind) → option_map f o ≡ Some (Show k) → ⊥
+never_some : {X : Type 0} (f : X → Command) → ((x : X) (k : Error) → f x ≡ Show k → ⊥) → (o : Option X) (k : Error) → option_map f o ≡ Some (Show k) → ⊥
 never_some f never None k e = cc
 never_some f never (Some x) k e = never x k (cc e)
 
-never_check : (o : Option Ask) (kinds : List Text) (k : ErrorKind) → option_map (λ ask. Check ask kinds) o ≡ Some (Show k) → ⊥
+never_check : (o : Option Asking) (kinds : List Text) (k : Error) → option_map (λ ask. Check ask kinds) o ≡ Some (Show k) → ⊥
 never_check None kinds k e = cc
 never_check (Some x) kinds k e = let both : Check x kinds ≡ Show k = cc e in cc both
 
 -- a choice is no text to be shown if neither side is
-one_of : (b : Bool) (x y : Option Asked) (k : ErrorKind) → (x ≡ Some (Show k) → ⊥) → (y ≡ Some (Show k) → ⊥) → (if b then x else y) ≡ Some (Show k) → ⊥
+one_of : (b : Bool) (x y : Option Command) (k : Error) → (x ≡ Some (Show k) → ⊥) → (y ≡ Some (Show k) → ⊥) → (if b then x else y) ≡ Some (Show k) → ⊥
 one_of true x y k p q e = p e
 one_of false x y k p q e = q e
 
-never_by : (name : Text) (rows : List Row) (k : ErrorKind) → asked_by name rows ≡ Some (Show k) → ⊥
+never_by : (name : Text) (rows : List Row) (k : Error) → asked_by name rows ≡ Some (Show k) → ⊥
 never_by name rows k =
     one_of (bytes_eq name (codes "script")) _ _ k (λ e. cc e)
-    (one_of (bytes_eq name (codes "audit")) _ _ k (never_some Audit (λ x k e. cc e) (files_in rows) k)
-    (one_of (bytes_eq name (codes "serve")) _ _ k (never_some Serve (λ x k e. cc e) (options_in rows) k)
-    (one_of (bytes_eq name (codes "replay")) _ _ k (never_some Replay (λ x k e. cc e) (transcripts_in rows) k)
+    (one_of (bytes_eq name (codes "audit")) _ _ k (never_some Audit (λ x k e. cc e) (audit_in rows) k)
+    (one_of (bytes_eq name (codes "serve")) _ _ k (never_some Serve (λ x k e. cc e) (serve_in rows) k)
+    (one_of (bytes_eq name (codes "replay")) _ _ k (λ e. cc e)
     (one_of (bytes_eq name (codes "compare")) _ _ k (never_some Compare (λ x k e. cc e) (compare_in rows) k)
-    (one_of (bytes_eq name (codes "who")) _ _ k (never_some AskWho (λ x k e. cc e) (who_in rows) k)
-    (one_of (bytes_eq name (codes "what")) _ _ k (never_some AskWhat (λ x k e. cc e) (what_in rows) k)
-    (one_of (bytes_eq name (codes "risks")) _ _ k (never_some AskRisks (λ x k e. cc e) (asking_in (codes "POLICY") rows) k)
-    (one_of (bytes_eq name (codes "paths")) _ _ k (never_some AskPaths (λ x k e. cc e) (paths_in rows) k)
-    (one_of (bytes_eq name (codes "check")) _ _ k (never_check (asking_in (codes "POLICY") rows) (kinds_in rows) k)
+    (one_of (bytes_eq name (codes "who")) _ _ k (never_some Who (λ x k e. cc e) (who_in rows) k)
+    (one_of (bytes_eq name (codes "what")) _ _ k (never_some What (λ x k e. cc e) (what_in rows) k)
+    (one_of (bytes_eq name (codes "risks")) _ _ k (never_some Risks (λ x k e. cc e) (asking_in (codes "POLICY") rows) k)
+    (one_of (bytes_eq name (codes "paths")) _ _ k (never_some Paths (λ x k e. cc e) (paths_in rows) k)
+    (one_of (bytes_eq name (codes "check")) _ _ k (never_check (asking_in (codes "POLICY") rows) (each (codes "kinds") rows) k)
     (one_of (bytes_eq name (codes "suggest")) _ _ k (never_some Suggest (λ x k e. cc e) (suggest_in rows) k) (λ e. cc e)))))))))))
 
-never_shown : (o : Option (Text × List Row)) (k : ErrorKind) → option_and_then (λ p. asked_by p.0 p.1) o ≡ Some (Show k) → ⊥
+never_shown : (o : Option (Text × List Row)) (k : Error) → option_and_then (λ p. asked_by p.0 p.1) o ≡ Some (Show k) → ⊥
 never_shown None k e = cc
 never_shown (Some p) k e = never_by p.0 p.1 k e
 
-pub names_of : (words : List Text) (m : ArgMatches) (r : Result Command CommandFault) → asked words ≡ given m → Reads told r (given m) → IfOk r (Names words)
-names_of words m (Ok (command.Script ks)) e h = e ∙ h
-names_of words m (Ok (command.Audit f)) e h = e ∙ h
-names_of words m (Ok (command.Serve o)) e h = e ∙ h
-names_of words m (Ok (command.Replay o)) e h = e ∙ h
-names_of words m (Ok (command.Compare o)) e h = e ∙ h
-names_of words m (Ok (command.Paths o)) e h = e ∙ h
-names_of words m (Ok (command.Check o ks)) e h = e ∙ h
-names_of words m (Ok (command.Suggest o)) e h = e ∙ h
-names_of words m (Ok (command.Who o)) e h = e ∙ h
-names_of words m (Ok (command.What o)) e h = e ∙ h
-names_of words m (Ok (command.Risks o)) e h = e ∙ h
-names_of words m (Ok (command.Show x)) e h = absurd (never_shown (subcommand_rows_of m) _ h)
+pub names_of : (words : List Text) (m : ArgMatches) (r : Result Command CommandFault) → asked words ≡ given m → Reads r (given m) → IfOk r (Names words)
+names_of words m (Ok (Script ks)) e h = e ∙ h
+names_of words m (Ok (Audit f)) e h = e ∙ h
+names_of words m (Ok (Serve o)) e h = e ∙ h
+names_of words m (Ok (Replay o)) e h = e ∙ h
+names_of words m (Ok (Compare o)) e h = e ∙ h
+names_of words m (Ok (Paths o)) e h = e ∙ h
+names_of words m (Ok (Check o ks)) e h = e ∙ h
+names_of words m (Ok (Suggest o)) e h = e ∙ h
+names_of words m (Ok (Who o)) e h = e ∙ h
+names_of words m (Ok (What o)) e h = e ∙ h
+names_of words m (Ok (Risks o)) e h = e ∙ h
+names_of words m (Ok (Show x)) e h = absurd (never_shown (subcommand_rows_of m) _ h)
 names_of words m (Err x) e h = tt
 
 pub wrong_of : (words : List Text) (m : ArgMatches) (r : Result Command CommandFault) → asked words ≡ given m → (fault_of kapi words ≡ [])
-    → Reads told r (given m) → IsErrOf r fault.Words → AreWrong words
+    → Reads r (given m) → IsErrOf r fault.Words → AreWrong words
 wrong_of words m (Ok c) e none h is = let bad : ⊥ = cc in absurd bad
 wrong_of words m (Err fault.Words) e none h is = (e ∙ h, inl none)
 wrong_of words m (Err fault.Memory) e none h is = let bad : ⊥ = cc in absurd bad

@@ -1,11 +1,13 @@
 -- The values of a command line's words.
-use Rattle.std.proofs.Common.{◌≡◌, List, ◌++◌, Option, Some, None, option_map}
+use Rattle.std.proofs.Common.{◌≡◌, Bool, true, false, List, ◌++◌, Option, Some, None, option_map, ap, refl}
+use Rattle.std.proofs.Math.Bool.{Bool-set}
 use Rattle.clap.specs.Matches.{first_value, matched_of, raw_values, subcommand_name_of}
 use Rattle.clap.specs.Simple.{subcommand_rows_of}
 use Rattle.clap.specs.Walk.{Row, Text, all_of, first_of, rows_of}
 use Rattle.clap.specs.declared.parser.matches.ArgMatches.{ArgMatches}
 use Rattle.clap.specs.declared.parser.matches.Found.{Found}
 use Rattle.clap.proofs.WalkLemmas.{first_value-rows, raw_values-rows}
+use Rattle.kapi_command_line.specs.Numbers.{when}
 use Rattle.kapi_command_line.specs.declared.program.Listen.{Listen}
 
 pub first_value_rows : (f : Found) (id : Text) → first_value f id ≡ first_of id (rows_of f)
@@ -13,6 +15,13 @@ first_value_rows f id = first_value-rows f id
 
 pub raw_values_rows : (f : Found) (id : Text) → option_map raw_values (matched_of f id) ≡ all_of id (rows_of f)
 raw_values_rows f id = raw_values-rows f id
+
+-- ---- tests
+
+-- a value that is made of the proof of a test, where the test holds
+pub when_holds : {A : Type 0} (b : Bool) (make : b ≡ true → Option A) (h : b ≡ true) → when b make ≡ make h
+when_holds false make h = absurd (cc h)
+when_holds true make h = ap make (Bool-set true true refl h)
 
 -- ---- the subcommand
 

@@ -2,3 +2,4 @@ pub mod CommandLine
 pub mod Numbers
 pub mod Listens
 pub mod Asked
+pub mod Private

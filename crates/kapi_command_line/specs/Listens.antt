@@ -1,8 +1,8 @@
 -- The ports that words of a command line specify, and the identities of their clients.
-use Rattle.std.specs.Prelude.{ℕ, Bool, ◌==◌, ◌&&◌, nat_le, nat_lt, if◌then◌else◌, List, [], ◌∷◌, length, Option, Some, None, option_and_then}
+use Rattle.std.specs.Prelude.{ℕ, Bool, ◌==◌, nat_lt, if◌then◌else◌, List, [], ◌∷◌, length, Option, Some, None, option_and_then}
 use Rattle.std.specs.List.{position_or_len, before_first, after_first}
 use Rattle.kapi_lines.specs.Identities.{named_identity}
-use Rattle.kapi_command_line.specs.Numbers.{listening_port_of}
+use Rattle.kapi_command_line.specs.Numbers.{number_of}
 use Rattle.kapi_command_line.specs.declared.program.Listen.{Listen}
 
 infixl 10 ◌>>=◌
@@ -20,7 +20,7 @@ parted word =
 unfoldable pub listen_of : Bool → List ℕ → Option Listen
 listen_of free word = do
   parts ← parted word
-  port ← listening_port_of free parts.0
+  port ← number_of 5 (if free then 0 else 1) 65535 parts.0
   identity ← named_identity parts.1
   Some (record { port = port; identity = identity })
 
@@ -31,7 +31,3 @@ listens_of free (word ∷ words) = do
   listen ← listen_of free word
   listens ← listens_of free words
   Some (listen ∷ listens)
-
--- the list, if it has 1 to 16 elements
-abbrev pub few : List Listen → Option (List Listen)
-few listens = if nat_le 1 (length listens) && nat_le (length listens) 16 then Some listens else None

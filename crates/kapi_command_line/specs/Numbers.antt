@@ -1,5 +1,5 @@
 -- The numbers that words of a command line specify.
-use Rattle.std.specs.Prelude.{ℕ, Bool, ◌*◌, ◌&&◌, nat_le, if◌then◌else◌, List, length, Option, Some, None}
+use Rattle.std.specs.Prelude.{◌≡◌, ℕ, Bool, true, false, ◌*◌, ◌&&◌, nat_le, if◌then◌else◌, List, length, refl, Option, Some, None}
 use Rattle.std.specs.Char.{is_ascii_digit}
 use Rattle.std.specs.List.{list_all}
 use Rattle.std.specs.Str.Parse.{digits_value}
@@ -11,22 +11,20 @@ number_of places least largest s =
     then Some (digits_value 10 s)
     else None
 
--- a port, from 1 to 65,535
-abbrev pub port_of : List ℕ → Option ℕ
-port_of s = number_of 5 1 65535 s
-
--- a port that is listened on, from 1 to 65,535, or 0 for a free one if these are taken
-abbrev pub listening_port_of : Bool → List ℕ → Option ℕ
-listening_port_of free s = number_of 5 (if free then 0 else 1) 65535 s
-
--- a number of readers, from 1 to 16
-abbrev pub readers_of : List ℕ → Option ℕ
-readers_of s = number_of 2 1 16 s
-
--- the revision after which a server's begin, up to the largest after which the opening objects can be created
-abbrev pub revision_of : List ℕ → Option ℕ
-revision_of s = number_of 15 0 281474976710650 s
-
 -- the first revision by the clock: 100 for each millisecond since the start of 1970, if that is such a revision
 abbrev pub clock_revision : ℕ → Option ℕ
 clock_revision milliseconds = if nat_le (milliseconds * 100) 281474976710650 then Some (milliseconds * 100) else None
+
+-- there are 1 to 16
+abbrev pub are_few : ℕ → Bool
+are_few n = nat_le 1 n && nat_le n 16
+
+-- a first revision that is named is at most the largest after which the opening objects can be created
+abbrev pub is_first : Option ℕ → Bool
+is_first None = true
+is_first (Some n) = nat_le n 281474976710650
+
+-- what is made of the proof of a test, if it holds
+abbrev pub when : {A : Type 0} (b : Bool) → (b ≡ true → Option A) → Option A
+when true make = make refl
+when false make = None

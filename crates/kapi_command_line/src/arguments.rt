@@ -1,8 +1,9 @@
-ghost use Rattle.std.specs.Prelude.{◌≡◌, IfOk, codes, false};
-ghost use Rattle.clap.specs.Simple.{app_of, new_app};
+ghost use Rattle.std.specs.Prelude.{◌≡◌, IfOk, map, false};
+ghost use Rattle.clap.specs.Simple.{app_of, shape_of};
 ghost use Rattle.clap.specs.Walk.{rule_of};
 ghost use Rattle.clap.specs.declared.builder.command.Command.TheViews.{out-Command};
-ghost use Rattle.kapi_command_line.specs.CommandLine.{kapi, askers as askers_app, asking as asking_app, check as check_app, formed as formed_app, suggest as suggest_app, suggest_options as suggest_options_app, audit as audit_app, audited as audited_app, beside as beside_app, compare as compare_app, compare_options as compare_options_app, opened as opened_app, paths as paths_app, paths_options as paths_options_app, played as played_app, reading as reading_app, replay as replay_app, risks as risks_app, serve as serve_app, served as served_app, script as script_app, who as who_app, what as what_app, who_options as who_options_app, word as word_rule, words as words_rule, file as file_rule, files as files_rule, json as json_rule, kinds as kinds_rule, strict as strict_rule, machines as machines_app, option as option_rule, readers as readers_rule, listen as listen_rule, transcripts as transcripts_rule, flag as flag_rule};
+ghost use Rattle.kapi_command_line.specs.CommandLine.{askers, kapi, machines, others};
+ghost use Rattle.kapi_command_line.specs.Private.Table.{rule_by, shape_by, with_rules, with_shapes};
 
 use crate::command_line::PORTS;
 use clap::{Arg, ArgAction, Command};
@@ -12,40 +13,313 @@ use std::alloc::Global;
 /// The version that `--version` prints.
 const VERSION: &str = "0.1.0";
 
+/// How often an argument is given, and with what.
+#[derive(Clone, Copy)]
+pub enum Kind {
+    /// `--NAME`, which has no value.
+    Flag,
+    /// `--NAME VALUE`, which may be left out.
+    Once,
+    /// `--NAME VALUE`, which may be given again and again.
+    Often,
+    /// A word that must be there.
+    Word,
+    /// A word that may be left out.
+    Maybe,
+    /// Words that may be left out.
+    Any,
+    /// Words, one or more.
+    Some,
+    /// Words, 1 to 16.
+    Few,
+}
+
+#[derive(Clone, Copy)]
+pub struct Argument {
+    kind: Kind,
+    name: &'static str,
+    /// The name of its value, if help shows another than the argument's.
+    value: &'static str,
+    help: &'static str,
+}
+
+/// A row of the table: the kind of an argument, its name, the name of its value if it has one, and its help.
+macro_rules! argument {
+    ($kind:ident $name:literal $help:literal) => { argument!($kind $name "" $help) };
+    ($kind:ident $name:literal $value:literal $help:literal) => {
+        Argument { kind: Kind::$kind, name: $name, value: $value, help: $help }
+    };
+}
+
+/// A subcommand: its name, what its help says before and below its arguments, those that it shares with others, and its
+/// own.
+pub struct Subcommand {
+    name: &'static str,
+    about: &'static str,
+    forms: &'static str,
+    shared: &'static [Argument],
+    own: &'static [Argument],
+}
+
 /// The command line that `kapi` takes.
 pub fn program<'a>(alloc: Global) -> Result<Command<'a>, Memory>
     ensures { IfOk result (λ c. app_of c ≡ kapi) }
 {
-    askers(alloc)?
-        .subcommand(check(alloc)?)?
-        .subcommand(suggest(alloc)?)
-}
-
-/// The program with all subcommands but `check` and `suggest`.
-fn askers<'a>(alloc: Global) -> Result<Command<'a>, Memory>
-    ensures { IfOk result (λ c. app_of c ≡ askers_app) }
-{
-    machines(alloc)?
-        .subcommand(compare(alloc)?)?
-        .subcommand(who(alloc)?)?
-        .subcommand(what(alloc)?)?
-        .subcommand(risks(alloc)?)?
-        .subcommand(paths(alloc)?)
-}
-
-/// The program with the subcommands that run a machine.
-fn machines<'a>(alloc: Global) -> Result<Command<'a>, Memory>
-    ensures { IfOk result (λ c. app_of c ≡ machines_app) }
-{
-    Command::new(alloc, "kapi")
+    let program = Command::new(alloc, "kapi")
         .about("An API server for declared objects with role-based access control")
         .version(VERSION)
-        .subcommand_required(true)
-        .subcommand(script(alloc)?)?
-        .subcommand(audit(alloc)?)?
-        .subcommand(serve(alloc)?)?
-        .subcommand(replay(alloc)?)
+        .subcommand_required(true);
+    with_others(alloc, with_askers(alloc, with_machines(alloc, program)?)?)
 }
+
+fn with_machines<'a>(alloc: Global, program: Command<'a>) -> Result<Command<'a>, Memory>
+    ensures { IfOk result (λ c. app_of c ≡ with_shapes (app_of program.entry) machines) }
+{
+    with_subcommands(alloc, program, &MACHINES)
+}
+
+fn with_askers<'a>(alloc: Global, program: Command<'a>) -> Result<Command<'a>, Memory>
+    ensures { IfOk result (λ c. app_of c ≡ with_shapes (app_of program.entry) askers) }
+{
+    with_subcommands(alloc, program, &ASKERS)
+}
+
+fn with_others<'a>(alloc: Global, program: Command<'a>) -> Result<Command<'a>, Memory>
+    ensures { IfOk result (λ c. app_of c ≡ with_shapes (app_of program.entry) others) }
+{
+    with_subcommands(alloc, program, &OTHERS)
+}
+
+/// The program with these subcommands too.
+fn with_subcommands<'a>(
+    alloc: Global,
+    program: Command<'a>,
+    subcommands: &[Subcommand],
+) -> Result<Command<'a>, Memory>
+    ensures { IfOk result (λ c. app_of c ≡ with_shapes (app_of program.entry) (map shape_by subcommands.now)) }
+{
+    let mut program = program;
+    for subcommand in subcommands {
+        program = program.subcommand(command(alloc, subcommand)?)?;
+    }
+    Ok(program)
+}
+
+fn command<'a>(alloc: Global, subcommand: &Subcommand) -> Result<Command<'a>, Memory>
+    ensures shape { IfOk result (λ c. shape_of c ≡ shape_by subcommand.now) }
+    ensures local { IfOk result (λ c. (out-Command c).has_globals ≡ false) }
+{
+    let command = Command::new(alloc, subcommand.name)
+        .about(subcommand.about)
+        .after_help(subcommand.forms);
+    let command = with_arguments(alloc, command, subcommand.shared)?;
+    with_arguments(alloc, command, subcommand.own)
+}
+
+fn with_arguments<'a>(
+    alloc: Global,
+    command: Command<'a>,
+    arguments: &[Argument],
+) -> Result<Command<'a>, Memory>
+    requires { (out-Command command).has_globals ≡ false }
+    ensures shape { IfOk result (λ c. app_of c ≡ with_rules (app_of command.entry) (map rule_by arguments.now)) }
+    ensures local { IfOk result (λ c. (out-Command c).has_globals ≡ false) }
+{
+    let mut command = command;
+    for argument in arguments {
+        command = command.arg(arg(alloc, argument))?;
+    }
+    Ok(command)
+}
+
+fn arg<'a>(alloc: Global, argument: &Argument) -> Arg<'a>
+    ensures rule { rule_of result ≡ rule_by argument.now }
+    ensures local { result.global ≡ false }
+{
+    let (name, value) = (argument.name, argument.value);
+    let arg = Arg::new(alloc, name).help(argument.help);
+    match argument.kind {
+        Kind::Flag => arg.long(name).action(ArgAction::SetTrue),
+        Kind::Once => arg.long(name).value_name(value),
+        Kind::Often => arg.long(name).value_name(value).action(ArgAction::Append),
+        Kind::Word => arg.required(true),
+        Kind::Maybe => arg,
+        Kind::Any => arg.num_args(1..),
+        Kind::Some => arg.required(true).num_args(1..),
+        Kind::Few => arg.value_name(value).required(true).num_args(1..=PORTS),
+    }
+}
+
+// ---- arguments that several subcommands have
+
+const WITH: Argument =
+    argument!(Often "with" "FILE" "A file or folder read with each policy; repeatable");
+
+const DEFAULTS: Argument =
+    argument!(Flag "with-defaults" "Adds Kubernetes' roles admin, edit and view");
+
+const NAMESPACE: Argument =
+    argument!(Once "namespace" "NS" "Of objects that name none; of a question");
+
+const STRICT: Argument = argument!(Flag "strict" "Status 1 if there is a doubt about a policy");
+
+const JSON: Argument = argument!(Flag "json" "Prints a JSON object a line");
+
+const FORMAT: Argument = argument!(Once "format" "FORM" "What is printed: table, markdown or json");
+
+const KINDS: Argument = argument!(Often "kinds" "FILE" "More kinds: a file, or the set kubernetes");
+
+const READERS: Argument =
+    argument!(Once "readers" "N" "Threads that answer, 1 to 16; 2 if left out");
+
+const POLICY: Argument = argument!(Word "POLICY" "The objects of the policy");
+
+/// How a policy of manifests is read.
+const READING: [Argument; 4] = [WITH, DEFAULTS, NAMESPACE, STRICT];
+
+/// How a policy is read, and what is printed.
+const ASKING: [Argument; 6] = [WITH, DEFAULTS, NAMESPACE, STRICT, JSON, FORMAT];
+
+/// The subcommands that run a machine.
+const MACHINES: [Subcommand; 4] = [
+    Subcommand {
+        name: "script",
+        about: "Plays the events on standard input and prints their answers",
+        forms: SCRIPT_FORMS,
+        shared: &[],
+        own: &[KINDS],
+    },
+    Subcommand {
+        name: "audit",
+        about: "Answers the questions of a file by the roles and bindings of another",
+        forms: AUDIT_FORMS,
+        shared: &READING,
+        own: &[
+            KINDS,
+            POLICY,
+            argument!(Word "QUESTIONS" "The questions"),
+            READERS,
+            argument!(Flag "manifests" "POLICY is manifests, in any order, and not lines"),
+            argument!(Flag "log" "QUESTIONS is a cluster's audit log"),
+            JSON,
+            FORMAT,
+        ],
+    },
+    Subcommand {
+        name: "serve",
+        about: "Serves requests on ports of this machine",
+        forms: SERVE_FORMS,
+        shared: &[],
+        own: &[
+            KINDS,
+            argument!(Often "manifests" "FILE" "Manifests of the first objects; repeatable"),
+            DEFAULTS,
+            NAMESPACE,
+            argument!(Flag "free-ports" "Prints a free port if PORT is 0"),
+            argument!(Once "load" "FILE" "The first objects, one a line"),
+            argument!(Once "first-revision" "N|clock" "Revisions begin after it; 0 if left out"),
+            argument!(Flag "recheck-watches" "Checks rights of watches at each event"),
+            argument!(Once "answer" "PORT" "A port on which questions are answered"),
+            READERS,
+            argument!(Few "LISTEN" "PORT=USER[,GROUP..]" "A port and who its clients are, 1 to 16 times"),
+        ],
+    },
+    Subcommand {
+        name: "replay",
+        about: "Runs policy tests and prints each answer that is not as expected",
+        forms: REPLAY_FORMS,
+        shared: &[],
+        own: &[
+            argument!(Flag "write" "Prints the transcripts with the answers that came"),
+            argument!(Flag "strict" "Status 1 if 403 is wanted of an unserved resource"),
+            argument!(Once "junit" "FILE" "A file for the outcomes as JUnit XML"),
+            argument!(Some "FILE" "The transcripts"),
+        ],
+    },
+];
+
+/// The subcommands that answer questions about a policy.
+const ASKERS: [Subcommand; 4] = [
+    Subcommand {
+        name: "compare",
+        about: "Prints what a policy allows to whom that another did not",
+        forms: COMPARE_FORMS,
+        shared: &ASKING,
+        own: &[
+            argument!(Flag "usual-groups" "Subjects have the groups of authentication"),
+            argument!(Flag "atoms" "A line for each permission, and not each rule"),
+            argument!(Flag "lost" "Prints what BEFORE allows that AFTER does not"),
+            argument!(Word "BEFORE" "The objects of the policy that was"),
+            argument!(Word "AFTER" "The objects of the policy that is to be"),
+        ],
+    },
+    Subcommand {
+        name: "who",
+        about: "Prints who may do something by a policy",
+        forms: WHO_FORMS,
+        shared: &ASKING,
+        own: &[
+            argument!(Once "name" "NAME" "The name of the object that is asked about"),
+            argument!(Once "questions" "FILE" "Questions, in place of VERB and RESOURCE"),
+            argument!(Flag "cluster" "Asks about the whole cluster alone"),
+            POLICY,
+            argument!(Maybe "VERB" "The verb that is asked about, as get"),
+            argument!(Maybe "RESOURCE" "The resource that is asked about, as pods"),
+        ],
+    },
+    Subcommand {
+        name: "what",
+        about: "Prints what a user has by a policy, and by what",
+        forms: WHAT_FORMS,
+        shared: &ASKING,
+        own: &[
+            POLICY,
+            argument!(Word "USER" "The user that is asked about"),
+            argument!(Any "GROUP" "Groups that the user is in besides its own"),
+        ],
+    },
+    Subcommand {
+        name: "risks",
+        about: "Prints who can escalate, bind or impersonate by a policy",
+        forms: RISKS_FORMS,
+        shared: &ASKING,
+        own: &[POLICY],
+    },
+];
+
+/// The subcommands that look through a policy.
+const OTHERS: [Subcommand; 3] = [
+    Subcommand {
+        name: "paths",
+        about: "Prints who can become whom in a cluster with a policy",
+        forms: PATHS_FORMS,
+        shared: &ASKING,
+        own: &[
+            argument!(Once "to" "WHOM" "Whom the paths lead to"),
+            argument!(Often "without" "KIND" "A kind of rights to leave out; repeatable"),
+            POLICY,
+        ],
+    },
+    Subcommand {
+        name: "check",
+        about: "Prints what dangles in a policy",
+        forms: CHECK_FORMS,
+        shared: &ASKING,
+        own: &[KINDS, POLICY],
+    },
+    Subcommand {
+        name: "suggest",
+        about: "Prints the least roles for what was used",
+        forms: SUGGEST_FORMS,
+        shared: &READING,
+        own: &[
+            argument!(Flag "log" "USES is a cluster's audit log"),
+            argument!(Once "policy" "POLICY" "The policy that may allow the uses"),
+            argument!(Flag "list" "Prints one List, and not an object a line"),
+            argument!(Word "USES" "What was used"),
+        ],
+    },
+];
 
 /// What `kapi script --help` shows below the options.
 const SCRIPT_FORMS: &str =
@@ -80,15 +354,6 @@ It prints
 Status 0 at the end of the script, 1 at a line that is no event. docs/PROFILE.md
 has each rule of scripts. docs/REPLAY.md shows transcripts, a shorter form."#;
 
-fn script<'a>(alloc: Global) -> Result<Command<'a>, Memory>
-    ensures { IfOk result (λ c. (app_of c ≡ script_app) × ((out-Command c).has_globals ≡ false)) }
-{
-    Command::new(alloc, "script")
-        .about("Plays the events on standard input and prints their answers")
-        .after_help(SCRIPT_FORMS)
-        .arg(kinds(alloc))
-}
-
 /// What `kapi audit --help` shows below the arguments.
 const AUDIT_FORMS: &str =
     r#"Each file has one JSON object a line. Empty lines and lines that begin with #
@@ -122,65 +387,6 @@ It prints
 
 docs/AUDIT.md shows how to take a policy out of a cluster."#;
 
-fn audit<'a>(alloc: Global) -> Result<Command<'a>, Memory>
-    ensures { IfOk result (λ c. (app_of c ≡ audit_app) × ((out-Command c).has_globals ≡ false)) }
-{
-    audited(alloc)?
-        .arg(readers(alloc))?
-        .arg(flag(
-            alloc,
-            "manifests",
-            "POLICY is manifests, in any order, and not lines",
-        ))?
-        .arg(flag(alloc, "log", "QUESTIONS is a cluster's audit log"))?
-        .arg(json(alloc))
-}
-
-/// `kapi audit` with its files.
-fn audited<'a>(alloc: Global) -> Result<Command<'a>, Memory>
-    ensures { IfOk result (λ c. (app_of c ≡ audited_app) × ((out-Command c).has_globals ≡ false)) }
-{
-    let about = "Answers the questions of a file by the roles and bindings of another";
-    reading(alloc, "audit", about, AUDIT_FORMS)?
-        .arg(kinds(alloc))?
-        .arg(file(alloc, "POLICY", "The objects of the policy"))?
-        .arg(file(alloc, "QUESTIONS", "The questions"))
-}
-
-/// A subcommand with `--with` and `--with-defaults`: further files of a policy, and the default roles.
-fn beside<'a>(
-    alloc: Global,
-    name: &'a str,
-    about: &'a str,
-    forms: &'a str,
-) -> Result<Command<'a>, Memory>
-    ensures { IfOk result (λ c. (app_of c ≡ beside_app name.entry.now) × ((out-Command c).has_globals ≡ false)) }
-{
-    Command::new(alloc, name)
-        .about(about)
-        .after_help(forms)
-        .arg(files(
-            alloc,
-            "with",
-            "A file or folder read with each policy; repeatable",
-        ))?
-        .arg(defaults(alloc))
-}
-
-/// A program that reads a policy as manifests.
-fn reading<'a>(
-    alloc: Global,
-    name: &'a str,
-    about: &'a str,
-    forms: &'a str,
-) -> Result<Command<'a>, Memory>
-    ensures { IfOk result (λ c. (app_of c ≡ reading_app name.entry.now) × ((out-Command c).has_globals ≡ false)) }
-{
-    beside(alloc, name, about, forms)?
-        .arg(home(alloc))?
-        .arg(strict(alloc))
-}
-
 /// What `kapi serve --help` shows below the arguments.
 const SERVE_FORMS: &str =
     r#"Each port is on 127.0.0.1. Each of its clients is the user that its word names,
@@ -210,59 +416,6 @@ Example:
 
 The server prints a line for each port. The last answer is a refusal, as ann has
 no role. docs/USING.md leads through a server with roles."#;
-
-/// `kapi serve` with the manifests that it begins with.
-fn served<'a>(alloc: Global) -> Result<Command<'a>, Memory>
-    ensures { IfOk result (λ c. (app_of c ≡ served_app) × ((out-Command c).has_globals ≡ false)) }
-{
-    Command::new(alloc, "serve")
-        .about("Serves requests on ports of this machine")
-        .after_help(SERVE_FORMS)
-        .arg(kinds(alloc))?
-        .arg(files(
-            alloc,
-            "manifests",
-            "Manifests of the first objects; repeatable",
-        ))?
-        .arg(defaults(alloc))
-}
-
-/// `kapi serve` with `--namespace` and `--free-ports` too.
-fn opened<'a>(alloc: Global) -> Result<Command<'a>, Memory>
-    ensures { IfOk result (λ c. (app_of c ≡ opened_app) × ((out-Command c).has_globals ≡ false)) }
-{
-    served(alloc)?.arg(home(alloc))?.arg(flag(
-        alloc,
-        "free-ports",
-        "Prints a free port if PORT is 0",
-    ))
-}
-
-fn serve<'a>(alloc: Global) -> Result<Command<'a>, Memory>
-    ensures { IfOk result (λ c. (app_of c ≡ serve_app) × ((out-Command c).has_globals ≡ false)) }
-{
-    opened(alloc)?
-        .arg(option(alloc, "load", "FILE", "The first objects, one a line"))?
-        .arg(option(
-            alloc,
-            "first-revision",
-            "N|clock",
-            "Revisions begin after it; 0 if left out",
-        ))?
-        .arg(flag(
-            alloc,
-            "recheck-watches",
-            "Checks rights of watches at each event",
-        ))?
-        .arg(option(
-            alloc,
-            "answer",
-            "PORT",
-            "A port on which questions are answered",
-        ))?
-        .arg(readers(alloc))?
-        .arg(ports(alloc))
-}
 
 /// What `kapi replay --help` shows below the arguments.
 const REPLAY_FORMS: &str =
@@ -312,38 +465,6 @@ It prints
 Status 0 if there is an answer to check and each is as wanted, else 1. A FILE is
 relative to the transcript's folder. docs/REPLAY.md has every line."#;
 
-fn replay<'a>(alloc: Global) -> Result<Command<'a>, Memory>
-    ensures { IfOk result (λ c. (app_of c ≡ replay_app) × ((out-Command c).has_globals ≡ false)) }
-{
-    played(alloc)?
-        .arg(option(
-            alloc,
-            "junit",
-            "FILE",
-            "A file for the outcomes as JUnit XML",
-        ))?
-        .arg(transcripts(alloc))
-}
-
-/// `kapi replay` with its flags.
-fn played<'a>(alloc: Global) -> Result<Command<'a>, Memory>
-    ensures { IfOk result (λ c. (app_of c ≡ played_app) × ((out-Command c).has_globals ≡ false)) }
-{
-    Command::new(alloc, "replay")
-        .about("Runs policy tests and prints each answer that is not as expected")
-        .after_help(REPLAY_FORMS)
-        .arg(flag(
-            alloc,
-            "write",
-            "Prints the transcripts with the answers that came",
-        ))?
-        .arg(flag(
-            alloc,
-            "strict",
-            "Status 1 if 403 is wanted of an unserved resource",
-        ))
-}
-
 /// What `kapi compare --help` shows below the arguments.
 const COMPARE_FORMS: &str =
     r#"BEFORE and AFTER are manifests in JSON, as 'kubectl get -o json' prints them:
@@ -382,79 +503,6 @@ Status 0 if nobody gains, 3 if somebody does, 4 if aggregated roles of a policy
 still change, and 1 if a file is not loaded, has neither role nor binding, or,
 with --strict, if a binding's role is not in the policy."#;
 
-fn compare<'a>(alloc: Global) -> Result<Command<'a>, Memory>
-    ensures { IfOk result (λ c. (app_of c ≡ compare_app) × ((out-Command c).has_globals ≡ false)) }
-{
-    compare_options(alloc)?
-        .arg(file(alloc, "BEFORE", "The objects of the policy that was"))?
-        .arg(file(alloc, "AFTER", "The objects of the policy that is to be"))
-}
-
-/// A program that asks about policies.
-fn asking<'a>(
-    alloc: Global,
-    name: &'a str,
-    about: &'a str,
-    forms: &'a str,
-) -> Result<Command<'a>, Memory>
-    ensures { IfOk result (λ c. (app_of c ≡ asking_app name.entry.now) × ((out-Command c).has_globals ≡ false)) }
-{
-    reading(alloc, name, about, forms)?.arg(json(alloc))
-}
-
-/// `kapi compare` without its files.
-fn compare_options<'a>(alloc: Global) -> Result<Command<'a>, Memory>
-    ensures { IfOk result (λ c. (app_of c ≡ compare_options_app) × ((out-Command c).has_globals ≡ false)) }
-{
-    let about = "Prints what a policy allows to whom that another did not";
-    formed(alloc, "compare", about, COMPARE_FORMS)?
-        .arg(flag(
-            alloc,
-            "usual-groups",
-            "Subjects have the groups of authentication",
-        ))?
-        .arg(flag(
-            alloc,
-            "atoms",
-            "A line for each permission, and not each rule",
-        ))?
-        .arg(flag(
-            alloc,
-            "lost",
-            "Prints what BEFORE allows that AFTER does not",
-        ))
-}
-
-/// A program that asks about policies and prints what `--format` names.
-fn formed<'a>(
-    alloc: Global,
-    name: &'a str,
-    about: &'a str,
-    forms: &'a str,
-) -> Result<Command<'a>, Memory>
-    ensures { IfOk result (λ c. (app_of c ≡ formed_app name.entry.now) × ((out-Command c).has_globals ≡ false)) }
-{
-    asking(alloc, name, about, forms)?.arg(option(
-        alloc,
-        "format",
-        "FORM",
-        "What is printed: table, markdown or json",
-    ))
-}
-
-/// `--namespace NS`, of programs that read manifests.
-fn home<'a>(alloc: Global) -> Arg<'a>
-    ensures rule { rule_of result ≡ option_rule (codes "namespace") }
-    ensures local { result.global ≡ false }
-{
-    option(
-        alloc,
-        "namespace",
-        "NS",
-        "Of objects that name none; of a question",
-    )
-}
-
 /// What `kapi who --help` shows below the arguments.
 const WHO_FORMS: &str =
     r#"POLICY is manifests in JSON, as 'kubectl get -o json' prints them: a file, a
@@ -482,40 +530,6 @@ Example:
 
 It prints
   User ann default RoleBinding readers Role reader, rule 0"#;
-
-fn who<'a>(alloc: Global) -> Result<Command<'a>, Memory>
-    ensures { IfOk result (λ c. (app_of c ≡ who_app) × ((out-Command c).has_globals ≡ false)) }
-{
-    who_options(alloc)?
-        .arg(file(alloc, "POLICY", "The objects of the policy"))?
-        .arg(word(alloc, "VERB", "The verb that is asked about, as get"))?
-        .arg(word(
-            alloc,
-            "RESOURCE",
-            "The resource that is asked about, as pods",
-        ))
-}
-
-/// `kapi who` without its words.
-fn who_options<'a>(alloc: Global) -> Result<Command<'a>, Memory>
-    ensures { IfOk result (λ c. (app_of c ≡ who_options_app) × ((out-Command c).has_globals ≡ false)) }
-{
-    let about = "Prints who may do something by a policy";
-    formed(alloc, "who", about, WHO_FORMS)?
-        .arg(option(
-            alloc,
-            "name",
-            "NAME",
-            "The name of the object that is asked about",
-        ))?
-        .arg(option(
-            alloc,
-            "questions",
-            "FILE",
-            "Questions, in place of VERB and RESOURCE",
-        ))?
-        .arg(flag(alloc, "cluster", "Asks about the whole cluster alone"))
-}
 
 /// What `kapi what --help` shows below the arguments.
 const WHAT_FORMS: &str =
@@ -545,16 +559,6 @@ Example:
 It prints
   get secrets - default RoleBinding readers, Role reader, rule 0"#;
 
-fn what<'a>(alloc: Global) -> Result<Command<'a>, Memory>
-    ensures { IfOk result (λ c. (app_of c ≡ what_app) × ((out-Command c).has_globals ≡ false)) }
-{
-    let about = "Prints what a user has by a policy, and by what";
-    formed(alloc, "what", about, WHAT_FORMS)?
-        .arg(file(alloc, "POLICY", "The objects of the policy"))?
-        .arg(file(alloc, "USER", "The user that is asked about"))?
-        .arg(some_words(alloc, "GROUP", "Groups that the user is in besides its own"))
-}
-
 /// What `kapi risks --help` shows below the arguments.
 const RISKS_FORMS: &str =
     r#"POLICY is manifests in JSON, as 'kubectl get -o json' prints them: a file, a
@@ -576,17 +580,6 @@ Example:
 
 It prints
   User olga * ClusterRoleBinding admins ClusterRole cluster-admin, rule 0"#;
-
-fn risks<'a>(alloc: Global) -> Result<Command<'a>, Memory>
-    ensures { IfOk result (λ c. (app_of c ≡ risks_app) × ((out-Command c).has_globals ≡ false)) }
-{
-    let about = "Prints who can escalate, bind or impersonate by a policy";
-    formed(alloc, "risks", about, RISKS_FORMS)?.arg(file(
-        alloc,
-        "POLICY",
-        "The objects of the policy",
-    ))
-}
 
 /// What `kapi paths --help` shows below the arguments.
 const PATHS_FORMS: &str =
@@ -615,28 +608,6 @@ Example:
 It prints
   User olga -> everything"#;
 
-fn paths<'a>(alloc: Global) -> Result<Command<'a>, Memory>
-    ensures { IfOk result (λ c. (app_of c ≡ paths_app) × ((out-Command c).has_globals ≡ false)) }
-{
-    paths_options(alloc)?.arg(file(alloc, "POLICY", "The objects of the policy"))
-}
-
-/// `kapi paths` without its file.
-fn paths_options<'a>(alloc: Global) -> Result<Command<'a>, Memory>
-    ensures { IfOk result (λ c. (app_of c ≡ paths_options_app) × ((out-Command c).has_globals ≡ false)) }
-{
-    let about = "Prints who can become whom in a cluster with a policy";
-    asking(alloc, "paths", about, PATHS_FORMS)?
-        .arg(option(alloc, "to", "WHOM", "Whom the paths lead to"))?
-        .arg(option(
-            alloc,
-            "without",
-            "KIND",
-            "A kind of rights to leave out; repeatable",
-        )
-        .action(ArgAction::Append))
-}
-
 /// What `kapi check --help` shows below the arguments.
 const CHECK_FORMS: &str =
     r#"POLICY is manifests in JSON, as 'kubectl get -o json' prints them: a file, a
@@ -655,21 +626,12 @@ Example:
    "roleRef":{"kind":"ClusterRole","name":"admin"},
    "subjects":[{"kind":"User","name":"olga"}]}
   END
-  kapi check policy.json | cut -c 1-76
+  kapi check policy.json | tail -n 1 | cut -c 1-76
 
 It prints
-  policy.json:1: ClusterRoleBinding admins: ClusterRole admin is not in the po
+  policy.json:1  ClusterRoleBinding admins: ClusterRole admin is not in the po
 
 Status 0 if nothing dangles, 3 if something does."#;
-
-fn check<'a>(alloc: Global) -> Result<Command<'a>, Memory>
-    ensures { IfOk result (λ c. (app_of c ≡ check_app) × ((out-Command c).has_globals ≡ false)) }
-{
-    let about = "Prints what dangles in a policy";
-    asking(alloc, "check", about, CHECK_FORMS)?
-        .arg(kinds(alloc))?
-        .arg(file(alloc, "POLICY", "The objects of the policy"))
-}
 
 /// What `kapi suggest --help` shows below the arguments.
 const SUGGEST_FORMS: &str = r#"USES: questions as of kapi audit, each a line with the spec of a
@@ -690,146 +652,3 @@ It prints
   "name":"suggested-1","namespace":"shop"
 
 The first object is a Role, the second the RoleBinding that gives it to ann."#;
-
-fn suggest<'a>(alloc: Global) -> Result<Command<'a>, Memory>
-    ensures { IfOk result (λ c. (app_of c ≡ suggest_app) × ((out-Command c).has_globals ≡ false)) }
-{
-    suggest_options(alloc)?.arg(file(alloc, "USES", "What was used"))
-}
-
-/// `kapi suggest` without its file.
-fn suggest_options<'a>(alloc: Global) -> Result<Command<'a>, Memory>
-    ensures { IfOk result (λ c. (app_of c ≡ suggest_options_app) × ((out-Command c).has_globals ≡ false)) }
-{
-    let about = "Prints the least roles for what was used";
-    reading(alloc, "suggest", about, SUGGEST_FORMS)?
-        .arg(flag(alloc, "log", "USES is a cluster's audit log"))?
-        .arg(option(
-            alloc,
-            "policy",
-            "POLICY",
-            "The policy that may allow the uses",
-        ))?
-        .arg(option(alloc, "format", "FORM", "What is printed: lines or list"))
-}
-
-/// `--with-defaults`, of programs that read manifests.
-fn defaults<'a>(alloc: Global) -> Arg<'a>
-    ensures rule { rule_of result ≡ flag_rule (codes "with-defaults") }
-    ensures local { result.global ≡ false }
-{
-    flag(
-        alloc,
-        "with-defaults",
-        "Adds Kubernetes' roles admin, edit and view",
-    )
-}
-
-/// `--strict`, of programs that read manifests.
-fn strict<'a>(alloc: Global) -> Arg<'a>
-    ensures rule { rule_of result ≡ strict_rule }
-    ensures local { result.global ≡ false }
-{
-    flag(
-        alloc,
-        "strict",
-        "Status 1 if there is a doubt about a policy",
-    )
-}
-
-fn json<'a>(alloc: Global) -> Arg<'a>
-    ensures rule { rule_of result ≡ json_rule }
-    ensures local { result.global ≡ false }
-{
-    flag(alloc, "json", "Prints a JSON object a line")
-}
-
-fn word<'a>(alloc: Global, name: &'a str, help: &'a str) -> Arg<'a>
-    ensures rule { rule_of result ≡ word_rule name.entry.now }
-    ensures local { result.global ≡ false }
-{
-    Arg::new(alloc, name).help(help)
-}
-
-fn some_words<'a>(alloc: Global, name: &'a str, help: &'a str) -> Arg<'a>
-    ensures rule { rule_of result ≡ words_rule name.entry.now }
-    ensures local { result.global ≡ false }
-{
-    Arg::new(alloc, name).help(help).num_args(1..)
-}
-
-fn flag<'a>(alloc: Global, name: &'a str, help: &'a str) -> Arg<'a>
-    ensures rule { rule_of result ≡ flag_rule name.entry.now }
-    ensures local { result.global ≡ false }
-{
-    Arg::new(alloc, name)
-        .long(name)
-        .action(ArgAction::SetTrue)
-        .help(help)
-}
-
-fn transcripts<'a>(alloc: Global) -> Arg<'a>
-    ensures rule { rule_of result ≡ transcripts_rule }
-    ensures local { result.global ≡ false }
-{
-    Arg::new(alloc, "FILE")
-        .help("The transcripts")
-        .required(true)
-        .num_args(1..)
-}
-
-fn file<'a>(alloc: Global, name: &'a str, help: &'a str) -> Arg<'a>
-    ensures rule { rule_of result ≡ file_rule name.entry.now }
-    ensures local { result.global ≡ false }
-{
-    Arg::new(alloc, name).help(help).required(true)
-}
-
-fn option<'a>(alloc: Global, name: &'a str, value: &'a str, help: &'a str) -> Arg<'a>
-    ensures rule { rule_of result ≡ option_rule name.entry.now }
-    ensures local { result.global ≡ false }
-{
-    Arg::new(alloc, name)
-        .long(name)
-        .value_name(value)
-        .help(help)
-}
-
-/// `--NAME FILE`, which may be given again and again.
-fn files<'a>(alloc: Global, name: &'a str, help: &'a str) -> Arg<'a>
-    ensures rule { rule_of result ≡ files_rule name.entry.now }
-    ensures local { result.global ≡ false }
-{
-    option(alloc, name, "FILE", help).action(ArgAction::Append)
-}
-
-/// `--kinds FILE`, which may be given again and again.
-fn kinds<'a>(alloc: Global) -> Arg<'a>
-    ensures rule { rule_of result ≡ kinds_rule }
-    ensures local { result.global ≡ false }
-{
-    files(alloc, "kinds", "More kinds: a file, or the set kubernetes")
-}
-
-fn readers<'a>(alloc: Global) -> Arg<'a>
-    ensures rule { rule_of result ≡ readers_rule }
-    ensures local { result.global ≡ false }
-{
-    option(
-        alloc,
-        "readers",
-        "N",
-        "Threads that answer, 1 to 16; 2 if left out",
-    )
-}
-
-fn ports<'a>(alloc: Global) -> Arg<'a>
-    ensures rule { rule_of result ≡ listen_rule }
-    ensures local { result.global ≡ false }
-{
-    Arg::new(alloc, "LISTEN")
-        .value_name("PORT=USER[,GROUP..]")
-        .help("A port and who its clients are, 1 to 16 times")
-        .required(true)
-        .num_args(1..=PORTS)
-}

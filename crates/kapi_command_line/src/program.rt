@@ -1,10 +1,11 @@
-ghost use Rattle.std.specs.Prelude.{◌≡◌, ◌≤◌, IfSome, vec_len};
-ghost use Rattle.std.proofs.Props.{props};
+ghost use Rattle.std.specs.Prelude.{◌≡◌, true, length};
+ghost use Rattle.kapi_command_line.specs.Numbers.{are_few, is_first};
 ghost use Rattle.kapi_command_line.specs.declared.program.CommandFault.TheVariants.{Memory as NoMemory};
 
 use clap::Error as Shown;
 use kapi_lines::Form;
 use kapi_model::Identity;
+use kapi_text::{Sequence, Text};
 use std::alloc::{AllocError, AllocFailed};
 use std::io;
 use thiserror::Error;
@@ -14,7 +15,7 @@ use thiserror::Error;
 pub enum Command {
     /// `kapi script`: events on standard input, answers on standard output, on a machine that serves the kinds of
     /// files, by their names.
-    Script(Vec<String>),
+    Script(Sequence<Text>),
     /// `kapi audit`: the questions of a file, answered by the policy of another.
     Audit(AuditFiles),
     /// `kapi serve`: requests on ports of this machine.
@@ -32,7 +33,7 @@ pub enum Command {
     /// `kapi paths`: who can become whom.
     Paths(PathsWords),
     /// `kapi check`: what dangles in a policy, where the kinds of files are served too, by their names.
-    Check(Asking, Vec<String>),
+    Check(Asking, Sequence<Text>),
     /// `kapi suggest`: the least roles for what was used.
     Suggest(SuggestWords),
     /// `--help`, `help` or `--version`: the text that is asked for.
@@ -43,11 +44,11 @@ pub enum Command {
 #[derive(Drop)]
 pub struct Reading {
     /// Files that are read as one with the policy, by their names.
-    pub with: Vec<String>,
+    pub with: Sequence<Text>,
     /// Whether Kubernetes' user-facing roles stand beneath the files.
     pub defaults: bool,
     /// The namespace of objects that live in one and name none; empty if none is given.
-    pub namespace: String,
+    pub namespace: Text,
     /// Whether a doubt about a policy ends with status 1.
     pub strict: bool,
 }
@@ -56,7 +57,7 @@ pub struct Reading {
 #[derive(Drop)]
 pub struct Asking {
     /// The name of the policy's file.
-    pub policy: String,
+    pub policy: Text,
     pub reading: Reading,
     pub form: Form,
 }
@@ -65,7 +66,7 @@ pub struct Asking {
 #[derive(Drop)]
 pub struct CompareWords {
     /// The name of the earlier policy's file.
-    pub before: String,
+    pub before: Text,
     /// The later policy.
     pub after: Asking,
     /// Whether the question is about identities with the groups that authentication gives them.
@@ -81,18 +82,18 @@ pub struct CompareWords {
 pub enum WhoQuestion {
     Words(WhoWanted),
     /// A file of questions, by its name.
-    File(String),
+    File(Text),
 }
 
 /// The words of a question; the namespace and the name are empty if they are left out.
 #[derive(Drop)]
 pub struct WhoWanted {
-    pub verb: String,
-    pub resource: String,
-    pub namespace: String,
+    pub verb: Text,
+    pub resource: Text,
+    pub namespace: Text,
     /// Whether the question is cluster-wide. If it is not and has no namespace, it is about all scopes.
     pub cluster: bool,
-    pub name: String,
+    pub name: Text,
 }
 
 /// The policy that is asked who may do something.
@@ -106,8 +107,8 @@ pub struct WhoWords {
 #[derive(Drop)]
 pub struct WhatWords {
     pub asking: Asking,
-    pub user: String,
-    pub groups: Vec<String>,
+    pub user: Text,
+    pub groups: Sequence<Text>,
 }
 
 /// The policy that is asked who can become whom.
@@ -115,20 +116,20 @@ pub struct WhatWords {
 pub struct PathsWords {
     pub asking: Asking,
     /// To whom the printed paths lead; empty if all paths are printed.
-    pub to: String,
+    pub to: Text,
     /// The kinds of rights that are left out.
-    pub without: Vec<String>,
+    pub without: Sequence<Text>,
 }
 
 /// What was used, and the policy that may allow it.
 #[derive(Drop)]
 pub struct SuggestWords {
     /// The name of the file of uses.
-    pub uses: String,
+    pub uses: Text,
     /// Whether the uses are a cluster's audit log, and not questions.
     pub log: bool,
     /// The name of the policy's file, empty if there is none.
-    pub policy: String,
+    pub policy: Text,
     pub reading: Reading,
     /// Whether one list is printed, and not an object a line.
     pub list: bool,
@@ -137,40 +138,40 @@ pub struct SuggestWords {
 /// The files of an audit, by their names, and how many threads answer.
 #[derive(Drop)]
 pub struct AuditFiles {
-    pub policy: String,
-    pub questions: String,
+    pub policy: Text,
+    pub questions: Text,
     /// The files of kinds, by their names.
-    pub kinds: Vec<String>,
+    pub kinds: Sequence<Text>,
     /// Whether the questions are a cluster's audit log.
     pub log: bool,
-    /// Whether JSON is printed.
-    pub json: bool,
+    /// What is printed of a log.
+    pub form: Form,
     /// How the policy is read if it is manifests; else it is lines.
     pub manifests: Option<Reading>,
     /// The number of threads, 1 to 16.
     pub readers: usize,
-    ghost few: { (1 ≤ readers) × (readers ≤ 16) },
+    ghost few: { are_few readers ≡ true },
 }
 
 /// The transcripts to play, by their names, and whether they are rewritten with the actual answers.
 #[derive(Drop)]
 pub struct ReplayOptions {
     /// The names of the transcripts, one or more, in the order of the words.
-    pub files: Vec<String>,
+    pub files: Sequence<Text>,
     pub write: bool,
     /// An expected 403 for a resource that is not served ends the program with status 1.
     pub strict: bool,
     /// The file that the outcomes are written to as JUnit has them, by its name.
-    pub junit: Option<String>,
+    pub junit: Option<Text>,
 }
 
 /// What a server loads, and the ports that it serves.
 #[derive(Drop)]
 pub struct ServeOptions {
     /// The files of kinds, by their names.
-    pub kinds: Vec<String>,
+    pub kinds: Sequence<Text>,
     /// The file of the objects that are stored at first, by its name.
-    pub load: Option<String>,
+    pub load: Option<Text>,
     /// The manifests of the objects that are stored at first, in place of such a file.
     pub manifests: Option<Reading>,
     /// The revision after which the server's begin, at most 281,474,976,710,650; none if the clock gives it.
@@ -178,16 +179,16 @@ pub struct ServeOptions {
     /// The rights of a watch are rechecked at each of its events.
     pub recheck: bool,
     /// The ports, 1 to 16, in the order of the words.
-    pub listens: Vec<Listen>,
+    pub listens: Sequence<Listen>,
     /// The port on which questions are answered, 1 to 65,535.
     pub answer: Option<u16>,
     /// The number of threads that answer questions.
     pub readers: usize,
     /// Whether a number of threads is specified without a port for questions.
     pub idle_readers: bool,
-    ghost first: { IfSome first_revision (λ n. n ≤ 281474976710650) } by { Prim.hlevel props },
-    ghost few: { (1 ≤ vec_len listens) × (vec_len listens ≤ 16) },
-    ghost threads: { (1 ≤ readers) × (readers ≤ 16) },
+    ghost first: { is_first first_revision ≡ true },
+    ghost few: { are_few (length listens) ≡ true },
+    ghost threads: { are_few readers ≡ true },
 }
 
 /// A port of 127.0.0.1, and the identity of each of its clients.

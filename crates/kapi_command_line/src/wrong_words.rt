@@ -1,7 +1,7 @@
 //! What is wrong with words that ask for nothing.
 use crate::arguments::program;
 use crate::command_line::{
-    answer, first, is_given, listen, readers, says_how_to_read, serves_manifests, value,
+    answer, first, form, is_given, listen, readers, says_how_to_read, serves_manifests, value,
 };
 use crate::program::CommandFault;
 use clap::ArgMatches;
@@ -22,94 +22,69 @@ struct Wrong<'a> {
 pub fn complaint(alloc: Global, words: &[&str]) -> Result<String, Memory> {
     let program = program(alloc)?;
     match program.try_get_matches_from(words) {
-        Ok(matches) => value_complaint(alloc, &matches),
+        Ok(matches) => match matches.subcommand() {
+            Some((name, words)) => value_complaint(alloc, name, words),
+            None => String::from_str(
+                alloc,
+                "error: no command\n\nFor more information, try 'kapi --help'.\n",
+            ),
+        },
         Err(error) => format!(in alloc; "{error}"),
     }
 }
 
 /// What is wrong with the values of words that are well-formed as a command line.
-fn value_complaint(alloc: Global, matches: &ArgMatches<'_>) -> Result<String, Memory> {
-    let Some((name, words)) = matches.subcommand() else {
-        return String::from_str(
-            alloc,
-            "error: no command\n\nFor more information, try 'kapi --help'.\n",
-        );
+fn value_complaint(alloc: Global, name: &str, words: &ArgMatches<'_>) -> Result<String, Memory> {
+    let complaint = match wrong_value(alloc, words) {
+        Some(
+            Wrong {
+                value,
+                argument,
+                wanted,
+            },
+        ) => format!(in alloc; "invalid value '{value}' for '{argument}': {wanted}")?,
+        None => String::from_str(alloc, missing_words(name, words))?,
     };
-    match wrong_value(alloc, words) {
-        Some(wrong) => wrong_text(alloc, name, wrong),
-        None => {
-            let missing = missing_words(name, words);
-            format!(in alloc;
-                "error: {missing}\n\nFor more information, try 'kapi {name} --help'.\n"
-            )
-        }
-    }
+    format!(in alloc; "error: {complaint}\n\nFor more information, try 'kapi {name} --help'.\n")
 }
 
 /// What is wrong with words each of which is of the wanted form.
 fn missing_words(name: &str, words: &ArgMatches<'_>) -> &'static str {
     match name {
-        "audit" => {
-            if says_how_to_read(words) {
-                "--with, --with-defaults, --namespace and --strict are for --manifests"
-            } else {
-                "the files are not understood"
-            }
-        }
-        "serve" => {
-            if serves_manifests(words) {
-                "--load FILE, or --manifests FILE and --with-defaults, and not both"
-            } else {
-                "--namespace is for --manifests"
-            }
-        }
+        "audit" if says_how_to_read(words) =>
+            "--with, --with-defaults, --namespace and --strict are for --manifests",
+        "audit" => "the files are not understood",
+        "serve" if serves_manifests(words) =>
+            "--load FILE, or --manifests FILE and --with-defaults, and not both",
+        "serve" => "--namespace is for --manifests",
         _ =>
             "a verb and a resource are needed, or --questions FILE and neither of them, --namespace nor --name",
     }
 }
 
-fn wrong_text(alloc: Global, name: &str, wrong: Wrong<'_>) -> Result<String, Memory> {
-    let value = wrong.value;
-    let argument = wrong.argument;
-    let wanted = wrong.wanted;
-    format!(in alloc;
-        "error: invalid value '{value}' for '{argument}': {wanted}\n\nFor more information, try 'kapi {name} --help'.\n"
-    )
-}
-
 /// The first value that is not of the wanted form, in the order in which they are read.
 fn wrong_value<'a>(alloc: Global, words: &ArgMatches<'a>) -> Option<Wrong<'a>> {
-    if answer(words).is_none() {
-        return wrong_at(
-            words,
+    let (name, argument, wanted) = if answer(words).is_none() {
+        (
             "answer",
             "--answer <PORT>",
             "a port is a number from 1 to 65535",
-        );
-    }
-    if readers(words).is_none() {
-        return wrong_at(words, "readers", "--readers <N>", "a number from 1 to 16");
-    }
-    if first(words).is_none() {
-        return wrong_at(
-            words,
+        )
+    } else if readers(words).is_none() {
+        ("readers", "--readers <N>", "a number from 1 to 16")
+    } else if first(words).is_none() {
+        (
             "first-revision",
             "--first-revision <N|clock>",
             "'clock', or a number from 0 to 281474976710650",
-        );
-    }
-    wrong_listen(alloc, words)
-}
-
-fn wrong_at<'a>(
-    words: &ArgMatches<'a>,
-    name: &str,
-    argument: &'static str,
-    wanted: &'static str,
-) -> Option<Wrong<'a>> {
-    let value = value(words, name)?;
+        )
+    } else if form(words).is_none() {
+        ("format", "--format <FORM>", "table, markdown or json")
+    } else {
+        return wrong_listen(alloc, words);
+    };
     Some(Wrong {
-        value,
+        value: value(words, name)?,
         argument,
         wanted,
     })

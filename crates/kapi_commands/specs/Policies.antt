@@ -16,7 +16,7 @@ use Rattle.kapi_lines.specs.declared.form.Form.{Form}
 use Rattle.kapi_access.specs.declared.answer.Shown.{Shown}
 use Rattle.kapi_access.specs.declared.question.Wanted.{Wanted}
 use Rattle.kapi_access.specs.declared.rights.Holder.{Holder}
-use Rattle.kapi_command_line.specs.Asked.{Paths}
+use Rattle.kapi_command_line.specs.declared.program.PathsWords.{PathsWords}
 use Rattle.kapi_commands.specs.declared.policies.Answered.{Answered}
 use Rattle.kapi_commands.specs.declared.policies.Compared.{Compared}
 use Rattle.kapi_commands.specs.declared.policies.FilesFault.{FilesFault}
@@ -152,5 +152,5 @@ unfoldable pub settled_file : List ℕ → Result Bool FilesError
 settled_file objects = as_first (engine_of objects) >>= λ e. Ok e.settled
 
 -- the text is that of who can become whom by the policy that a file is
-abbrev pub ArePaths : Paths → List ℕ → List ℕ → Type 0
-ArePaths asked objects text = (e : Engine) → as_first (engine_of objects) ≡ Ok e → IsPathsText e asked.ask.form asked.to asked.without text
+abbrev pub ArePaths : PathsWords → List ℕ → List ℕ → Type 0
+ArePaths asked objects text = (e : Engine) → as_first (engine_of objects) ≡ Ok e → IsPathsText e asked.asking.form asked.to asked.without text

@@ -1,5 +1,5 @@
 //! Questions about the policies of files.
-use crate::doubts::{Doubts, EMPTY};
+use crate::doubts::{Doubts, EMPTY, full_resource};
 use crate::ending::Ending;
 use crate::manifests::{ReadPolicy, read_policy, tell_refused};
 use crate::policies::{
@@ -23,6 +23,17 @@ use std::thread::Threads;
 struct Source<'a> {
     name: &'a str,
     bytes: &'a [u8],
+}
+
+/// What a question names that its policy may not.
+#[derive(Clone, Copy)]
+enum Named<'a> {
+    Nothing,
+    Question(&'a WhoWanted),
+    Lines(Source<'a>),
+    Holder(&'a WhatWords),
+    /// To whom paths lead.
+    Whom(&'a str),
 }
 
 /// Prints what the later policy allows and the earlier does not or, with `--lost`, the reverse: status 0 if there is
@@ -55,16 +66,12 @@ pub fn run_compare<R: Files + Input + Print + Eprint + AllocGlobal + Threads + S
         old.lines(),
         new.lines(),
     );
-    let ending = tell_compared(rt, words, old, new, compared)?;
-    Ok(ending.or_doubted(asking.reading.strict && doubts.are_some()))
+    let doubted = asking.reading.strict && doubts.are_some();
+    tell_compared(rt, words, old, new, doubted, compared)
 }
 
-/// The policies as they are compared: exchanged if what is lost is asked for.
-fn in_order<'a>(
-    lost: bool,
-    before: &'a ReadPolicy,
-    after: &'a ReadPolicy,
-) -> (&'a ReadPolicy, &'a ReadPolicy) {
+/// Two things as they are compared: exchanged if what is lost is asked for.
+fn in_order<T>(lost: bool, before: T, after: T) -> (T, T) {
     if lost {
         (after, before)
     } else {
@@ -89,17 +96,19 @@ fn tell_compared<R: Print + Eprint + AllocGlobal>(
     words: &CompareWords,
     old: &ReadPolicy,
     new: &ReadPolicy,
+    doubted: bool,
     compared: Result<Compared, FilesFault>,
 ) -> io::Result<Ending> {
     match compared {
         Ok(compared) => {
             print(rt, compared.text.as_slice())?;
+            let (before, after) = (words.before.as_str(), words.after.policy.as_str());
+            let (before, after) = in_order(words.lost, before, after);
+            tell_unsettled(rt, before, compared.before_settled)?;
+            tell_unsettled(rt, after, compared.after_settled)?;
             let settled = compared.before_settled && compared.after_settled;
-            if !settled {
-                tell_unsettled(rt, words.before.as_str(), compared.before_settled)?;
-                tell_unsettled(rt, words.after.policy.as_str(), compared.after_settled)?;
-            }
-            Ok(Ending::of_comparison(compared.gains).or_unsettled(settled))
+            let ending = Ending::of_comparison(compared.gains).or_doubted(doubted);
+            Ok(ending.or_unsettled(settled))
         }
         Err(FilesFault::Memory) => {
             eprintln!(rt; "out of memory")?;
@@ -125,16 +134,18 @@ pub fn run_who<R: Files + Input + Print + Eprint + AllocGlobal + Clone + Drop>(
     match &words.question {
         WhoQuestion::Words(wanted) => {
             let asked = ask_words(rt, asking.form, policy.lines(), wanted);
-            let none = file_of("", b"".as_slice());
-            answer(rt, asking, &policy, &none, Some(wanted), asked)
+            answer(rt, asking, &policy, Named::Question(wanted), asked)
         }
         WhoQuestion::File(file) => {
             let Some(lines) = read_file(rt, file.as_str())? else {
                 return Ok(Ending::Stopped);
             };
-            let questions = file_of(file.as_str(), lines.as_slice());
+            let questions = Source {
+                name: file.as_str(),
+                bytes: lines.as_slice(),
+            };
             let asked = who_file(rt.alloc(), asking.form, policy.lines(), questions.bytes);
-            answer(rt, asking, &policy, &questions, None, asked)
+            answer(rt, asking, &policy, Named::Lines(questions), asked)
         }
     }
 }
@@ -169,28 +180,17 @@ fn answer<R: Print + Eprint + AllocGlobal>(
     rt: &R,
     asking: &Asking,
     policy: &ReadPolicy,
-    questions: &Source<'_>,
-    wanted: Option<&WhoWanted>,
+    named: Named<'_>,
     asked: Result<Answered, FilesFault>,
 ) -> io::Result<Ending> {
     let answered = match asked {
         Ok(answered) => answered,
-        Err(fault) => return refuse(rt, fault, policy, questions),
+        Err(fault) => return refuse(rt, fault, policy, named),
     };
     print(rt, answered.text.as_slice())?;
     tell_unsettled(rt, asking.policy.as_str(), answered.settled)?;
-    let named = &policy.prepared.words;
     let mut doubts = doubts_of(rt, asking.policy.as_str(), policy)?;
-    doubts.tell_lines(rt, named, questions.bytes)?;
-    if let Some(wanted) = wanted {
-        doubts.tell_question(
-            rt,
-            named,
-            wanted.verb.as_str(),
-            wanted.resource.as_str(),
-            wanted.namespace.as_str(),
-        )?;
-    }
+    tell_named(rt, &mut doubts, policy, named)?;
     let ending = Ending::Done.or_doubted(asking.reading.strict && doubts.are_some());
     Ok(ending.or_unsettled(answered.settled))
 }
@@ -206,22 +206,11 @@ pub fn run_what<R: Files + Input + Print + Eprint + AllocGlobal + Clone + Drop>(
     };
     let holder = holder_of(rt.alloc(), words)?;
     let asked = what_file(rt.alloc(), asking.form, policy.lines(), &holder);
-    answer(
-        rt,
-        asking,
-        &policy,
-        &file_of("", b"".as_slice()),
-        None,
-        asked,
-    )
+    answer(rt, asking, &policy, Named::Holder(words), asked)
 }
 
 /// The named user in the named groups, and in the groups that authentication adds.
 fn holder_of(alloc: Global, words: &WhatWords) -> Result<Holder, Memory> {
-    let mut groups = Vec::new(alloc);
-    for group in words.groups.iter() {
-        groups.push(Text::copy_of(alloc, group.as_str())?)?;
-    }
     let namespace = words.asking.reading.namespace.as_str();
     let within = if namespace.is_empty() {
         None
@@ -229,7 +218,7 @@ fn holder_of(alloc: Global, words: &WhatWords) -> Result<Holder, Memory> {
         Some(Text::copy_of(alloc, namespace)?)
     };
     Ok(Holder {
-        identity: asked_as(alloc, words.user.as_str(), groups.as_slice())?,
+        identity: asked_as(alloc, words.user.as_str(), words.groups.as_slice())?,
         within,
     })
 }
@@ -244,14 +233,7 @@ pub fn run_risks<R: Files + Input + Print + Eprint + AllocGlobal + Clone + Drop>
         return Ok(Ending::Stopped);
     };
     let asked = risks_file(rt.alloc(), asking.form, policy.lines());
-    answer(
-        rt,
-        asking,
-        &policy,
-        &file_of("", b"".as_slice()),
-        None,
-        asked,
-    )
+    answer(rt, asking, &policy, Named::Nothing, asked)
 }
 
 /// Prints who can become whom by a policy: status 0, 4 if the roles are not settled, or 1 after a line on standard
@@ -260,8 +242,9 @@ pub fn run_paths<R: Files + Input + Print + Eprint + AllocGlobal + Clone + Drop>
     rt: &R,
     words: &PathsWords,
 ) -> io::Result<Ending> {
-    for kind in &words.without {
-        if !is_kind(kind.as_str()) {
+    for kind in words.without.as_slice() {
+        let kind = kind.as_str();
+        if !is_kind(kind) {
             eprintln!(rt; "--without {kind}: there is no such kind; kapi paths --help names them")?;
             return Ok(Ending::Misused);
         }
@@ -271,14 +254,32 @@ pub fn run_paths<R: Files + Input + Print + Eprint + AllocGlobal + Clone + Drop>
         return Ok(Ending::Stopped);
     };
     let asked = paths_file(rt.alloc(), words, policy.lines());
-    answer(
-        rt,
-        asking,
-        &policy,
-        &file_of("", b"".as_slice()),
-        None,
-        asked,
-    )
+    answer(rt, asking, &policy, Named::Whom(words.to.as_str()), asked)
+}
+
+/// Reports what a question names and the policy does not.
+fn tell_named<R: Eprint + AllocGlobal>(
+    rt: &R,
+    doubts: &mut Doubts,
+    policy: &ReadPolicy,
+    named: Named<'_>,
+) -> io::Result<()> {
+    let words = &policy.prepared.words;
+    match named {
+        Named::Nothing => Ok(()),
+        Named::Question(wanted) => {
+            let resource = full_resource(rt.alloc(), wanted.resource.as_str())?;
+            let (verb, namespace) = (wanted.verb.as_str(), wanted.namespace.as_str());
+            doubts.tell_question(rt, words, verb, resource.as_str(), namespace)
+        }
+        Named::Lines(questions) => doubts.tell_lines(rt, words, questions.bytes),
+        Named::Holder(what) => {
+            let namespace = what.asking.reading.namespace.as_str();
+            let (user, groups) = (what.user.as_str(), what.groups.as_slice());
+            doubts.tell_holder(rt, words, user, groups, namespace)
+        }
+        Named::Whom(to) => doubts.tell_whom(rt, words, to),
+    }
 }
 
 /// Reports the doubts about a policy of that name.
@@ -291,10 +292,6 @@ pub fn doubts_of<R: Eprint + AllocGlobal>(
     doubts.tell_empty(rt, name, policy)?;
     doubts.tell(rt, policy)?;
     Ok(doubts)
-}
-
-fn file_of<'a>(name: &'a str, bytes: &'a [u8]) -> Source<'a> {
-    Source { name, bytes }
 }
 
 fn shown(atoms: bool) -> Shown {
@@ -321,13 +318,15 @@ fn refuse<R: Eprint + AllocGlobal>(
     rt: &R,
     fault: FilesFault,
     policy: &ReadPolicy,
-    questions: &Source<'_>,
+    named: Named<'_>,
 ) -> io::Result<Ending> {
     match fault {
         FilesFault::First(_) | FilesFault::Second(_) => tell_refused(rt, policy)?,
         FilesFault::Question(line) => {
-            let name = questions.name;
-            eprintln!(rt; "{name}: question line {line}")?;
+            if let Named::Lines(questions) = named {
+                let name = questions.name;
+                eprintln!(rt; "{name}: question line {line}")?;
+            }
             eprintln!(rt;
                 "  a question is VERB RESOURCE [NAMESPACE [NAME]], with one space between words"
             )?;

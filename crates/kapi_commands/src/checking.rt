@@ -4,14 +4,16 @@ use crate::ending::Ending;
 use crate::kinds::read_kinds;
 use crate::manifests::{ReadPolicy, read_policy, tell_refused};
 use crate::policies::{FilesFault, load_first};
+use crate::rows::finding_row;
 use crate::telling::print;
 use kapi_access::{absent_accounts, bound_places, covered_rules, dangles};
 use kapi_command_line::Asking;
 use kapi_index::IndexedPolicy;
-use kapi_lines::numbered_lines;
+use kapi_lines::{Form, numbered_lines};
 use kapi_manifests::{Origin, text_at};
 use kapi_model::{PolicyRule, ResourceRow, RoleKind, RoleRef};
 use kapi_policy::{Binding, BindingKind, NamespacedName, Policy};
+use kapi_report::report;
 use kapi_reviews::Question;
 use kapi_rules::Point;
 use kapi_text::{Memory, Text};
@@ -56,7 +58,7 @@ struct Named<'a> {
 pub fn run_check<R: Files + Input + Print + Eprint + AllocGlobal + Clone + Drop>(
     rt: &R,
     asking: &Asking,
-    kinds: &[String],
+    kinds: &[Text],
 ) -> io::Result<Ending> {
     let Some(table) = read_kinds(rt, kinds)? else {
         return Ok(Ending::Stopped);
@@ -75,12 +77,22 @@ pub fn run_check<R: Files + Input + Print + Eprint + AllocGlobal + Clone + Drop>
             return Ok(Ending::Stopped);
         }
     };
-    let findings = findings(rt.alloc(), &policy, &engine.policy, table.as_slice())?;
-    let json = asking.form == kapi_access::Form::Json;
-    print(
-        rt,
-        text_of(rt.alloc(), json, &policy, findings.as_slice())?.as_slice(),
+    let namespace = asking.reading.namespace.as_str();
+    let namespace = if namespace.is_empty() {
+        "default"
+    } else {
+        namespace
+    };
+    let accounts = policy.accounts(rt.alloc(), namespace)?;
+    let findings = findings(
+        rt.alloc(),
+        &policy,
+        &engine.policy,
+        accounts,
+        table.as_slice(),
     )?;
+    let text = text_of(rt.alloc(), asking.form, &policy, findings.as_slice())?;
+    print(rt, text.as_slice())?;
     tell_unsettled(rt, asking.policy.as_str(), engine.settled)?;
     let doubted = asking.reading.strict && !policy.has_policy();
     if !policy.has_policy() {
@@ -94,28 +106,27 @@ pub fn run_check<R: Files + Input + Print + Eprint + AllocGlobal + Clone + Drop>
     Ok(ending.or_doubted(doubted).or_unsettled(engine.settled))
 }
 
-/// The findings as they are printed, a line each.
+/// The findings as they are printed.
 fn text_of(
     alloc: Global,
-    json: bool,
+    form: Form,
     policy: &ReadPolicy,
     findings: &[Finding],
 ) -> Result<Vec<u8>, Memory> {
-    let mut text = Vec::new(alloc);
+    let mut rows = Vec::new(alloc);
     for finding in findings {
-        let name = policy.name_of(finding.origin);
-        let line = finding.origin.line;
-        let found = finding.text.as_str();
-        let printed = if json {
-            let name = Value::String(String::from_str(alloc, name)?).to_string(alloc)?;
-            let found = Value::String(String::from_str(alloc, found)?).to_string(alloc)?;
-            format!(in alloc; "{{\"file\":{name},\"finding\":{found},\"line\":{line}}}\n")?
-        } else {
-            format!(in alloc; "{name}:{line}: {found}\n")?
-        };
-        text.extend_from_slice(printed.as_bytes())?;
+        let (file, line) = policy.place_of(finding.origin);
+        rows.push(finding_row(alloc, file, line, finding.text.as_str())?)?;
     }
-    Ok(text)
+    let heads = ["WHERE", "FINDING"];
+    report(
+        alloc,
+        form,
+        &heads,
+        "Nothing dangles.\n",
+        &[],
+        rows.as_slice(),
+    )
 }
 
 /// What dangles, in the order of the files' objects.
@@ -123,6 +134,7 @@ fn findings(
     alloc: Global,
     read: &ReadPolicy,
     policy: &IndexedPolicy,
+    accounts: BTreeSet<NamespacedName>,
     table: &[ResourceRow],
 ) -> Result<Vec<Finding>, Memory> {
     let bindings = policy.bindings()?;
@@ -131,7 +143,7 @@ fn findings(
         bindings: bindings.as_slice(),
         places: places_of(alloc, bindings.as_slice())?,
         bound: bound_places(alloc, bindings.as_slice())?,
-        accounts: read.accounts(alloc)?,
+        accounts,
         table,
     };
     let mut found = Vec::new(alloc);
@@ -222,6 +234,10 @@ fn look_at_binding(
     for account in absent_accounts(alloc, binding, &looks.accounts)?.iter() {
         let namespace = account.namespace.as_str();
         let name = account.name.as_str();
+        // Each namespace has this one (Kubernetes, 'Service Accounts', 'Default service accounts').
+        if name == "default" {
+            continue;
+        }
         let text = format!(in alloc; "{words}: there is no ServiceAccount {namespace}/{name}")?;
         found.push(Finding { origin, text })?;
     }

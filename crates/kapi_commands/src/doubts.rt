@@ -1,7 +1,10 @@
 //! Doubts about policies and questions: what is likely not meant, reported on standard error.
 use crate::manifests::ReadPolicy;
+use crate::telling::Plain;
+use kapi_access::{Scope, question_of};
 use kapi_lines::{as_text, numbered_lines};
 use kapi_manifests::{Words, text_at};
+use kapi_rules::Point;
 use kapi_text::{Memory, Text};
 use serde_json::Value;
 use std::alloc::Global;
@@ -11,6 +14,20 @@ use strsim::levenshtein;
 
 /// What is said of a policy without roles and bindings.
 pub const EMPTY: &str = "there is no role and no binding in it";
+
+/// Whom paths lead to.
+const NODES: &str =
+    "paths lead to everything, every user, User NAME, Group NAME, ServiceAccount NAMESPACE/NAME, and to all in, accounts of or limits of a namespace";
+
+/// Kinds of objects that make others, which no file has (kustomize, Flux, Argo CD, Helm and OpenShift).
+const MAKERS: [&str; 6] = [
+    "Application",
+    "ApplicationSet",
+    "HelmChart",
+    "HelmRelease",
+    "Kustomization",
+    "Template",
+];
 
 /// The largest number of changed characters between a word and the one that is likely meant.
 const CHANGES: usize = 2;
@@ -60,6 +77,13 @@ const USER: Sort = Sort {
     known: "",
 };
 
+const GROUP: Sort = Sort {
+    what: "Group",
+    called: "group",
+    by: "binding",
+    known: "system:masters system:authenticated system:unauthenticated system:serviceaccounts",
+};
+
 const ACCOUNT: Sort = Sort {
     what: "ServiceAccount",
     called: "service account",
@@ -99,8 +123,15 @@ impl Doubts {
         self.tell_line(rt, format!(in rt.alloc(); "{name}: {EMPTY}")?)
     }
 
-    /// Reports the bindings of a policy whose role is not in it.
+    /// Reports the bindings of a policy whose role is not in it, and how many objects of its files make others elsewhere.
     pub fn tell<R: Eprint + AllocGlobal>(&mut self, rt: &R, policy: &ReadPolicy) -> io::Result<()> {
+        for kind in MAKERS {
+            let word = Text::copy_of(rt.alloc(), kind)?;
+            if let Some(count) = policy.prepared.skipped.get(&word) {
+                let line = format!(in rt.alloc(); "{count} {kind}: what it makes is not read")?;
+                self.tell_line(rt, line)?;
+            }
+        }
         for dangling in policy.prepared.dangling.as_slice() {
             let (binding, role) = (dangling.binding.as_str(), dangling.role.as_str());
             let line = format!(in rt.alloc();
@@ -137,7 +168,9 @@ impl Doubts {
         for line in numbered_lines(rt.alloc(), questions)?.iter() {
             let mut parts = as_text(line.text).unwrap_or("").trim_end().split(' ');
             if let (Some(verb), Some(resource)) = (parts.next(), parts.next()) {
-                self.tell_question(rt, words, verb, resource, parts.next().unwrap_or(""))?;
+                let resource = full_resource(rt.alloc(), resource)?;
+                let namespace = parts.next().unwrap_or("");
+                self.tell_question(rt, words, verb, resource.as_str(), namespace)?;
             }
         }
         Ok(())
@@ -171,7 +204,63 @@ impl Doubts {
         if is_in_a_named_group(rt.alloc(), words, review)? {
             return Ok(());
         }
-        let user = text_at(review, "user");
+        self.tell_user(rt, words, text_at(review, "user"))
+    }
+
+    /// Reports the groups of a user that no binding of the policy names and, if it names none of them, the user; and a
+    /// namespace that no object names.
+    pub fn tell_holder<R: Eprint + AllocGlobal>(
+        &mut self,
+        rt: &R,
+        words: &Words,
+        user: &str,
+        groups: &[Text],
+        namespace: &str,
+    ) -> io::Result<()> {
+        let mut is_in_one = false;
+        for group in groups {
+            self.tell_word(rt, words, &GROUP, group.as_str())?;
+            is_in_one = is_in_one || words.has(rt.alloc(), "Group", group.as_str())?;
+        }
+        if !is_in_one {
+            self.tell_user(rt, words, user)?;
+        }
+        self.tell_word(rt, words, &NAMESPACE, namespace)
+    }
+
+    /// Reports to whom paths are asked for, as they print it, if nothing names it or paths print no such words.
+    pub fn tell_whom<R: Eprint + AllocGlobal>(
+        &mut self,
+        rt: &R,
+        words: &Words,
+        to: &str,
+    ) -> io::Result<()> {
+        for before in ["all in ", "accounts of ", "limits of "] {
+            match to.strip_prefix(before) {
+                Some("every namespace") => return Ok(()),
+                Some(namespace) => return self.tell_word(rt, words, &NAMESPACE, namespace),
+                None => {}
+            }
+        }
+        match to.split_once(' ') {
+            Some(("User", name)) => self.tell_user(rt, words, name),
+            Some(("Group", name)) => self.tell_word(rt, words, &GROUP, name),
+            Some(("ServiceAccount", place)) => match place.split_once('/') {
+                Some((_namespace, name)) => self.tell_word(rt, words, &ACCOUNT, name),
+                None => self.tell_word(rt, words, &ACCOUNT, place),
+            },
+            _ if ["", "everything", "every user"].contains(&to) => Ok(()),
+            _ => self.tell_line(rt, format!(in rt.alloc(); "--to {to}: {NODES}")?),
+        }
+    }
+
+    /// Reports a user that no binding of the policy names.
+    fn tell_user<R: Eprint + AllocGlobal>(
+        &mut self,
+        rt: &R,
+        words: &Words,
+        user: &str,
+    ) -> io::Result<()> {
         let account = user.strip_prefix("system:serviceaccount:");
         match account.and_then(|account| account.split_once(':')) {
             Some((_namespace, name)) => self.tell_word(rt, words, &ACCOUNT, name),
@@ -206,10 +295,19 @@ impl Doubts {
         if self.told.contains(&line) {
             return Ok(());
         }
-        let text = line.as_str();
+        let text = Plain(line.as_str());
         eprintln!(rt; "{text}")?;
         self.told.insert(line)?;
         Ok(())
+    }
+}
+
+/// A resource in full, as `pods` for `po`.
+pub fn full_resource(alloc: Global, resource: &str) -> Result<Text, Memory> {
+    let asked = question_of(alloc, "", resource, Scope::Cluster, "")?;
+    match &asked.point {
+        Point::Resource(point) => Text::copy_of(alloc, point.resource.as_str()),
+        Point::Url(_) => Text::copy_of(alloc, resource),
     }
 }
 

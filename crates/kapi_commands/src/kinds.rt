@@ -2,10 +2,11 @@
 ghost use Rattle.std.specs.Prelude.{◌≡◌, true, IfOk, IfSome};
 ghost use Rattle.kapi_core.specs.Table.{fits};
 
-use crate::manifests::{Source, TOLD, read_named, tell_fault, tell_more, texts_of};
+use crate::manifests::{TOLD, tell_fault, tell_more};
+use crate::sources::{Source, read_named, texts_of};
 use kapi_kinds::{Fault, Kinds, kubernetes_kinds, table_of};
 use kapi_model::ResourceRow;
-use kapi_text::Sequence;
+use kapi_text::{Sequence, Text};
 use std::fs::Files;
 use std::io;
 
@@ -16,7 +17,7 @@ pub const KUBERNETES: &str = "kubernetes";
 /// on standard error.
 pub fn read_kinds<R: Files + Input + Eprint + AllocGlobal + Clone + Drop>(
     rt: &R,
-    names: &[String],
+    names: &[Text],
 ) -> io::Result<Option<Sequence<ResourceRow>>>
     ensures { IfOk result (λ read. IfSome read (λ t. fits t ≡ true)) }
 {
@@ -44,16 +45,19 @@ fn read_source<R: Files + Input + Eprint + AllocGlobal + Clone + Drop>(
     sources: &mut Vec<Source>,
 ) -> io::Result<bool> {
     if name != KUBERNETES {
-        return read_named(rt, name, sources);
+        return read_named(rt, name, false, sources);
     }
     let mut bytes = Vec::new(rt.alloc());
     bytes.extend_from_slice(kubernetes_kinds().as_bytes())?;
-    let name = String::from_str(rt.alloc(), name)?;
-    sources.push(Source { name, bytes })?;
+    sources.push(Source::new(rt.alloc(), name, bytes)?)?;
     Ok(true)
 }
 
-fn tell_faults(rt: &impl Eprint, sources: &[Source], faults: &[Fault]) -> io::Result<()> {
+fn tell_faults<R: Eprint + AllocGlobal>(
+    rt: &R,
+    sources: &[Source],
+    faults: &[Fault],
+) -> io::Result<()> {
     for fault in faults.iter().take(TOLD) {
         tell_fault(rt, sources, fault.origin, &fault.reason)?;
     }

@@ -11,6 +11,8 @@ mod kinds;
 mod logging;
 mod manifests;
 mod policies;
+mod rows;
+mod sources;
 mod suggesting;
 mod system_reason;
 mod telling;
@@ -22,8 +24,9 @@ pub use ending::Ending;
 pub use kinds::{KUBERNETES, read_kinds};
 pub use logging::audit_log;
 pub use manifests::{
-    ReadPolicy, read_policy, read_served, read_texts, tell_refused, tell_unloaded,
+    ReadPolicy, read_policy, read_policy_of, read_served, tell_refused, tell_unloaded,
 };
+pub use sources::read_texts;
 pub use suggesting::run_suggest;
 pub use system_reason::Reason;
 pub use telling::{print, read_file, tell_reason, tell_stopped, tell_unread};

@@ -4,14 +4,15 @@ use crate::checking::request_words;
 use crate::ending::Ending;
 use crate::manifests::{read_policy, tell_refused};
 use crate::policies::load_first;
+use crate::rows::{denied_row, difference_row};
 use crate::telling::{print, read_file};
 use kapi_command_line::{AuditFiles, Reading};
-use kapi_lines::numbered_lines;
+use kapi_lines::{Form, numbered_lines};
 use kapi_policy::Policy;
+use kapi_report::report;
 use kapi_reviews::Question;
 use kapi_suggest::{Shown, read_event};
 use kapi_text::{Memory, Text};
-use serde_json::{Map, Value, put};
 use std::alloc::Global;
 use std::collections::BTreeMap;
 use std::fs::Files;
@@ -56,7 +57,7 @@ pub fn audit_log<R: Files + Input + Print + Eprint + AllocGlobal + Clock + Clone
         tell_refused(rt, &policy)?;
         return Ok(Ending::Stopped);
     };
-    let judged = judge(rt.alloc(), files.json, &engine.policy, logged.as_slice())?;
+    let judged = judge(rt.alloc(), files.form, &engine.policy, logged.as_slice())?;
     print(rt, judged.text.as_slice())?;
     tell_unsettled(rt, name, engine.settled)?;
     let doubts = doubts_of(rt, name, &policy)?;
@@ -119,102 +120,92 @@ struct Judged {
     differ: bool,
 }
 
+/// A request of the log on which the policy and the log differ, in words.
+#[derive(Drop)]
+struct Difference {
+    line: usize,
+    allowed: bool,
+    words: String,
+}
+
 fn judge<P: Policy>(
     alloc: Global,
-    json: bool,
+    form: Form,
     policy: &P,
     logged: &[Logged],
 ) -> Result<Judged, Memory> {
-    let mut text = Vec::new(alloc);
-    let mut refused = BTreeMap::new(alloc);
-    let mut differ = false;
+    let mut differences = Vec::new(alloc);
+    let mut denied = BTreeMap::new(alloc);
     for one in logged {
         let request = &one.request;
         let namespace = request.namespace.as_str();
         let decision = policy.decide(&request.identity, namespace, &request.point);
         let allowed = decision.is_allowed();
         if allowed != one.allowed {
-            differ = true;
-            push_difference(alloc, json, &mut text, one)?;
+            differences.push(Difference {
+                line: one.line,
+                allowed: one.allowed,
+                words: request_words(alloc, request)?,
+            })?;
         }
         if !allowed {
-            count_one(alloc, &mut refused, request)?;
+            count_one(alloc, &mut denied, request)?;
         }
     }
-    for (words, count) in &refused {
-        push_count(alloc, json, &mut text, words.as_str(), *count)?;
+    let mut text = differences_text(alloc, form, differences.as_slice())?;
+    if form != Form::Json && !denied.is_empty() {
+        text.push(b'\n')?;
     }
+    text.extend_from_slice(denied_text(alloc, form, &denied)?.as_slice())?;
+    let differ = !differences.is_empty();
     Ok(Judged { text, differ })
 }
 
 fn count_one(
     alloc: Global,
-    refused: &mut BTreeMap<Text, usize>,
+    denied: &mut BTreeMap<Text, usize>,
     request: &Question,
 ) -> Result<(), Memory> {
     let words = Text::new(request_words(alloc, request)?);
-    let count: usize = match refused.get(&words) {
+    let count: usize = match denied.get(&words) {
         Some(count) => *count,
         None => 0,
     };
-    drop(refused.insert(words, count.saturating_add(1))?);
+    drop(denied.insert(words, count.saturating_add(1))?);
     Ok(())
 }
 
-fn push_difference(
+fn differences_text(
     alloc: Global,
-    json: bool,
-    text: &mut Vec<u8>,
-    one: &Logged,
-) -> Result<(), Memory> {
-    let words = request_words(alloc, &one.request)?;
-    if json {
-        let mut members = Map::new(alloc);
-        put(
-            &mut members,
-            alloc,
-            "allowedByLog",
-            Value::Bool(one.allowed),
-        )?;
-        put(&mut members, alloc, "line", Value::from(one.line))?;
-        put(&mut members, alloc, "request", Value::String(words))?;
-        return push_tree(alloc, text, &Value::Object(members));
+    form: Form,
+    differences: &[Difference],
+) -> Result<Vec<u8>, Memory> {
+    let mut rows = Vec::new(alloc);
+    for difference in differences {
+        let (line, allowed) = (difference.line, difference.allowed);
+        let request = difference.words.as_str();
+        rows.push(difference_row(alloc, line, allowed, request)?)?;
     }
-    let line = one.line;
-    let (log, policy) = if one.allowed {
-        ("allowed", "refuses")
-    } else {
-        ("refused", "allows")
-    };
-    let printed = format!(in alloc; "line {line}: the log {log}, the policy {policy}: {words}\n")?;
-    text.extend_from_slice(printed.as_bytes())
+    let heads = ["LINE", "LOG", "POLICY", "REQUEST"];
+    report(
+        alloc,
+        form,
+        &heads,
+        "No decision differs.\n",
+        &[],
+        rows.as_slice(),
+    )
 }
 
-fn push_count(
+/// How often the policy denies which request.
+fn denied_text(
     alloc: Global,
-    json: bool,
-    text: &mut Vec<u8>,
-    words: &str,
-    count: usize,
-) -> Result<(), Memory> {
-    if json {
-        let mut members = Map::new(alloc);
-        put(&mut members, alloc, "count", Value::from(count))?;
-        put(
-            &mut members,
-            alloc,
-            "refused",
-            Value::String(String::from_str(alloc, words)?),
-        )?;
-        return push_tree(alloc, text, &Value::Object(members));
+    form: Form,
+    denied: &BTreeMap<Text, usize>,
+) -> Result<Vec<u8>, Memory> {
+    let mut rows = Vec::new(alloc);
+    for (words, count) in denied {
+        rows.push(denied_row(alloc, *count, words.as_str())?)?;
     }
-    let printed = format!(in alloc; "refused {count} times: {words}\n")?;
-    text.extend_from_slice(printed.as_bytes())
-}
-
-fn push_tree(alloc: Global, text: &mut Vec<u8>, tree: &Value) -> Result<(), Memory> {
-    let line = tree.to_string(alloc)?;
-    text.extend_from_slice(line.as_bytes())?;
-    text.push(b'\n')?;
-    Ok(())
+    report(alloc, form, &["TIMES", "DENIED"], "", &[], rows.as_slice())
 }

@@ -1,11 +1,10 @@
 //! Answers about the policies of files.
-ghost use Rattle.std.specs.Prelude.{◌≡◌, Result, IfOk, map, string_bytes};
+ghost use Rattle.std.specs.Prelude.{◌≡◌, Result, IfOk};
 ghost use Rattle.kapi_text.specs.Gives.{Gives};
 ghost use Rattle.kapi_loading.specs.Faults as loading;
 ghost use Rattle.kapi_loading.specs.Faults.{FileFault};
 ghost use Rattle.kapi_engine.specs.Engines.{engine_of};
 ghost use Rattle.kapi_engine.specs.declared.engine.Engine.{Engine as AnEngine};
-ghost use Rattle.kapi_command_line.specs.Asked.{paths_told};
 ghost use Rattle.kapi_commands.specs.Policies as files;
 ghost use Rattle.kapi_commands.specs.Policies.{answered_told, as_first, compared_to, compared_told, comparison, fault_told};
 
@@ -13,7 +12,7 @@ use kapi_command_line::PathsWords;
 use kapi_engine::{
     Engine, Form, Holder, Identities, LineFault, Shown, StartError, Wanted, compare, load,
 };
-use kapi_text::{Memory, Text};
+use kapi_text::Memory;
 use std::alloc::Global;
 use std::thread;
 use std::thread::Threads;
@@ -279,31 +278,20 @@ pub fn risks_file(alloc: Global, form: Form, objects: &[u8]) -> Result<Answered,
 
 // ---- paths
 
-fn texts_of(alloc: Global, texts: &[String]) -> Result<Vec<Text>, Memory>
-    ensures { IfOk result (λ v. v.items ≡ map string_bytes texts.now) }
-{
-    let mut list = Vec::new(alloc);
-    for text in texts {
-        list.push(Text::copy_of(alloc, text.as_str())?)?;
-    }
-    Ok(list)
-}
-
 /// Who can become whom by the policy of a file.
 ///
 /// # Errors
 /// `First` at the first line that is not loaded, `Memory` if an allocation fails.
 pub fn paths_file(alloc: Global, words: &PathsWords, objects: &[u8]) -> Result<Answered, FilesFault>
     ensures settled { Gives fault_told (λ a. a.settled) result (files.settled_file objects.now) }
-    ensures text { IfOk result (λ a. files.ArePaths (paths_told words.now) objects.now a.text.items) }
+    ensures text { IfOk result (λ a. files.ArePaths words.now objects.now a.text.items) }
 {
     let engine = load_first(alloc, objects)?;
-    let without = texts_of(alloc, words.without.as_slice())?;
     let text = engine.paths(
         alloc,
         words.asking.form,
         words.to.as_str(),
-        without.as_slice(),
+        words.without.as_slice(),
     )?;
     Ok(Answered {
         text,

@@ -1,10 +1,10 @@
 //! The least roles for what was used: `kapi suggest`.
-use crate::asking::tell_unsettled;
+use crate::asking::{doubts_of, tell_unsettled};
 use crate::checking::{binding_kind, place_words};
 use crate::ending::Ending;
 use crate::manifests::{ReadPolicy, read_policy};
 use crate::policies::load_first;
-use crate::telling::{print, read_file};
+use crate::telling::{Plain, print, read_file};
 use kapi_command_line::SuggestWords;
 use kapi_engine::{access_reviews, question_of};
 use kapi_index::IndexedPolicy;
@@ -38,7 +38,7 @@ pub fn run_suggest<R: Files + Input + Print + Eprint + AllocGlobal + Clone + Dro
             return Ok(Ending::Stopped);
         }
     };
-    if words.policy.is_empty() {
+    if words.policy.as_str().is_empty() {
         tell_masters(rt, uses.as_slice())?;
         print_suggested(rt, words.list, uses.as_slice())?;
         return Ok(Ending::Done);
@@ -70,7 +70,13 @@ fn suggest_beside<R: Print + Eprint + AllocGlobal>(
     print_suggested(rt, words.list, allowed.as_slice())?;
     tell_unused(rt, &engine.policy, allowed.as_slice())?;
     tell_unsettled(rt, words.policy.as_str(), engine.settled)?;
-    Ok(Ending::Done.or_unsettled(engine.settled))
+    let doubts = doubts_of(rt, words.policy.as_str(), read)?;
+    let doubted = words.reading.strict && doubts.are_some();
+    Ok(
+        Ending::Done
+            .or_doubted(doubted)
+            .or_unsettled(engine.settled),
+    )
 }
 
 /// The uses of a file, or the line of it that is none.
@@ -128,8 +134,9 @@ fn tell_unused<R: Eprint + AllocGlobal>(
         let binding = &found.binding;
         let kind = binding_kind(binding.kind);
         let words = place_words(rt.alloc(), kind, binding.namespace, binding.name)?;
+        let words = Plain(words.as_str());
         let role_kind = binding.role.kind.as_str();
-        let role = binding.role.name.as_str();
+        let role = Plain(binding.role.name.as_str());
         let rule = found.rule;
         eprintln!(rt; "may go: {words}, {role_kind} {role}, rule {rule}")?;
     }

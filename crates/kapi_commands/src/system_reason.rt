@@ -21,6 +21,8 @@ pub fn words(kind: ErrorKind) -> Option<&'static str> {
         ErrorKind::NotFound => Some("there is no such file"),
         ErrorKind::PermissionDenied => Some("permission denied"),
         ErrorKind::IsADirectory => Some("it is a directory"),
+        ErrorKind::InvalidInput => Some("it is no plain file"),
+        ErrorKind::FilesystemLoop => Some("it has too many folders, or links in a circle"),
         ErrorKind::AddrInUse => Some("the port is in use"),
         ErrorKind::StorageFull => Some("what it prints cannot be written, as the disk is full"),
         ErrorKind::BrokenPipe => Some("what it prints cannot be written, as nobody reads it"),

@@ -138,7 +138,8 @@ impl<P: Policy + Drop> Core<P> {
     /// # Errors
     /// `UnknownKind` if no such apiVersion and kind are served, `Object` if it is no JSON object, has a fault, or
     /// names no namespace though its kind has one, `Store` if its namespace does not exist, its place is taken, or
-    /// no revision is left. After an error nothing has changed.
+    /// no revision is left. The latter two have the refusal that a server answers to the creation. After an error
+    /// nothing has changed.
     pub fn load(&mut self, text: &[u8]) -> Result<PolicyStep, LoadError>
         ensures { Loads self.old self.new text.now result }
     {

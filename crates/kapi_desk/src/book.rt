@@ -6,14 +6,14 @@ ghost use mathlib.Core.List.{IsPrefix};
 ghost use Rattle.kapi_desk.specs.Pages.{opening_page, step_page};
 
 use kapi_index::IndexedPolicy;
-use kapi_policy::{PlainPolicy, PolicyChange, PolicyStep};
+use kapi_policy::{PolicyChange, PolicyStep};
 use logbook::{Gain, Offer, Opening, Plain, Play, Rule, Seen, Start, Word};
 use std::marker::Model;
 use std::snapshot::Snapshot;
 
 /// What a page says: the first the policy that the desk opened with, each other one a step. No value of it is made.
 pub struct Page {
-    pub opening: PlainPolicy,
+    pub opening: IndexedPolicy,
     pub step: [PolicyChange; 0],
 }
 

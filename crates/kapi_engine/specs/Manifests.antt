@@ -1,6 +1,7 @@
 -- Engines of manifests.
 use Rattle.std.specs.Prelude.{◌≡◌, ℕ, ◌-◌, ◌==◌, Bool, false, List, length, Result, Ok, Err, unwrap_or}
 use Rattle.std.specs.List.{slice_get}
+use Rattle.kapi_core.specs.ProgramTable.{program_rows}
 use Rattle.kapi_loading.specs.Faults.{bad_line}
 use Rattle.kapi_manifests.specs.Written.{Loads, faults_in_all}
 use Rattle.kapi_manifests.specs.declared.fault.Origin.{Origin}
@@ -13,11 +14,11 @@ use Rattle.kapi_engine.specs.declared.manifests.ManifestsFault.TheVariants as fa
 
 -- how many faults files have
 abbrev pub faults_of : List ℕ → List (List ℕ) → ℕ
-faults_of namespace texts = faults_in_all scope.Policy namespace texts
+faults_of namespace texts = faults_in_all program_rows scope.Policy namespace texts
 
 -- lines of the policy of files that have no fault
 abbrev pub AreLinesOf : List ℕ → Bool → List (List ℕ) → Prepared → Type 0
-AreLinesOf namespace defaults texts p = Loads scope.Policy namespace defaults texts p × (faults_of namespace texts ≡ 0)
+AreLinesOf namespace defaults texts p = Loads program_rows scope.Policy namespace defaults texts p × (faults_of namespace texts ≡ 0)
 
 -- where the object of a line begins
 abbrev pub origin_of : List Origin → ℕ → Origin

@@ -1,5 +1,5 @@
 -- Who can become whom, as it is printed.
-use Rattle.std.specs.Prelude.{◌≡◌, ℕ, Bool, true, false, List, [], ◌++◌}
+use Rattle.std.specs.Prelude.{◌≡◌, ℕ, Bool, List, [], ◌++◌}
 use Rattle.kapi_access.specs.Answers.{settled_line}
 use Rattle.kapi_lines.specs.declared.form.Form.{Form}
 use Rattle.kapi_lines.specs.declared.form.Form.TheVariants as form
@@ -7,11 +7,6 @@ use Rattle.kapi_paths.specs.Printed.{IsAnswer}
 use Rattle.kapi_paths.specs.Rights.{rights_without}
 use Rattle.kapi_policy.specs.All.{all_bindings}
 use Rattle.kapi_engine.specs.declared.engine.Engine.{Engine}
-
-abbrev pub is_json : Form → Bool
-is_json form.Json = true
-is_json form.Table = false
-is_json form.Markdown = false
 
 -- as JSON the last line says whether the roles are settled
 abbrev pub settled_end : Form → Bool → List ℕ
@@ -22,5 +17,5 @@ settled_end form.Markdown settled = []
 -- the text is that of paths by all bindings of the policy, and the line behind them
 pub record IsPathsText (engine : Engine) (f : Form) (to : List ℕ) (without : List (List ℕ)) (text : List ℕ) : Type 0 where
   pub found : List ℕ
-  pub answer : IsAnswer engine.policy (all_bindings engine.policy) (rights_without without) (is_json f) to found
+  pub answer : IsAnswer engine.policy (all_bindings engine.policy) (rights_without without) f to found
   pub text_is : text ≡ found ++ settled_end f engine.settled

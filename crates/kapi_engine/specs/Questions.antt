@@ -1,13 +1,13 @@
 -- What is a question: the `spec` of a review that the server takes (Kubernetes API, authorization.k8s.io/v1,
 -- SubjectAccessReview).
-use Rattle.std.specs.Prelude.{ℕ, ◌==◌, Bool, if◌then◌else◌, List, [], length, Option, None, Some, Result, Ok, Err, codes, option_and_then}
+use Rattle.std.specs.Prelude.{ℕ, ◌==◌, if◌then◌else◌, List, [], length, Option, None, Some, Result, Ok, Err, codes, option_and_then}
 use Rattle.serde_json.specs.Data.{Data, no_members, object, put}
 use Rattle.kapi_object.specs.Admission.{BodyFault, read_as}
 use Rattle.kapi_model.specs.declared.row.ResourceRow.{ResourceRow}
 use Rattle.kapi_object.specs.Tree.{json_object}
 use Rattle.kapi_model.specs.declared.identity.Identity.{Identity}
 use Rattle.kapi_reviews.specs.Faults.{review_faults}
-use Rattle.kapi_reviews.specs.Questions.{at, question}
+use Rattle.kapi_reviews.specs.Reviews.{asked}
 use Rattle.kapi_reviews.specs.declared.kind.ReviewKind.TheVariants.{SubjectAccessReview}
 use Rattle.kapi_reviews.specs.declared.question.Question.{Question}
 
@@ -19,13 +19,9 @@ review_of spec = object (put (codes "spec") spec no_members)
 abbrev pub nobody : Identity
 nobody = record { user = []; groups = [] }
 
--- a review without faults
-abbrev pub has_no_fault : Data → Bool
-has_no_fault tree = length (review_faults SubjectAccessReview tree) == 0
-
 -- what a review asks, if it has no fault
 unfoldable pub asked_by : Data → Option Question
-asked_by tree = if has_no_fault tree then Some (question SubjectAccessReview [] nobody (at (codes "spec") tree)) else None
+asked_by tree = if length (review_faults SubjectAccessReview tree) == 0 then Some (asked SubjectAccessReview nobody tree) else None
 
 -- what a body that is read as a review asks, if it has no fault
 abbrev pub asked_if : Result Data BodyFault → Option Question

@@ -6,7 +6,7 @@ ghost use Rattle.kapi_access.specs.Risks.{risks};
 ghost use Rattle.kapi_access.specs.Answers.{gains_text, settled_line as settled_text, ways_text, who_text};
 ghost use Rattle.kapi_access.specs.Lines.{answered_lines, fault_told};
 ghost use Rattle.kapi_access.specs.Rights.{what_text};
-ghost use Rattle.kapi_engine.specs.Paths.{IsPathsText, is_json as is_json_form, settled_end as settled_end_of};
+ghost use Rattle.kapi_engine.specs.Paths.{IsPathsText, settled_end as settled_end_of};
 ghost use Rattle.kapi_lines.specs.Lines.{lines_of};
 
 use crate::engine::Engine;
@@ -81,25 +81,9 @@ impl Engine {
         ensures { IfOk result (λ v. IsPathsText self.now form to.now without.now v.items) }
     {
         let bindings = self.policy.bindings()?;
-        let mut text = answer_paths(
-            alloc,
-            is_json(form),
-            &self.policy,
-            bindings.as_slice(),
-            to,
-            without,
-        )?;
+        let mut text = answer_paths(alloc, form, &self.policy, bindings.as_slice(), to, without)?;
         text.extend_from_slice(settled_end(form, self.settled))?;
         Ok(text)
-    }
-}
-
-fn is_json(form: Form) -> bool
-    ensures { result ≡ is_json_form form }
-{
-    match form {
-        Form::Json => true,
-        Form::Table | Form::Markdown => false,
     }
 }
 

@@ -1,8 +1,12 @@
 //! Engines of manifests.
-ghost use Rattle.std.specs.Prelude.{◌≡◌, map};
-ghost use Rattle.kapi_engine.specs.Manifests.{IsOfManifests, origin_of as origin_in};
+ghost use Rattle.std.specs.Prelude.{◌≡◌, IfOk, length, map};
+ghost use Rattle.kapi_core.specs.ProgramTable.{program_rows};
+ghost use Rattle.kapi_engine.specs.Manifests.{IsOfManifests, faults_of, origin_of as origin_in};
+ghost use Rattle.kapi_manifests.specs.Written.{Loads};
+ghost use Rattle.kapi_manifests.specs.declared.sorted.Scope.TheVariants as scope;
 
 use crate::engine::{Engine, load};
+use kapi_core::program_table;
 use kapi_loading::StartError;
 use kapi_manifests::{Fault, Options, Origin, Prepared, Scope, prepare};
 use kapi_text::Memory;
@@ -44,13 +48,7 @@ pub fn load_manifests(
 ) -> Result<Engine, ManifestsFault>
     ensures { IsOfManifests namespace.now defaults (map (λ text. text.now) files.now) result }
 {
-    let options = Options {
-        scope: Scope::Policy,
-        namespace,
-        defaults,
-        words: false,
-    };
-    let prepared = prepare(alloc, options, files)?;
+    let prepared = prepare_policy(alloc, namespace, defaults, files)?;
     if !prepared.faults.is_empty() {
         return Err(ManifestsFault::Files(prepared.faults));
     }
@@ -59,6 +57,27 @@ pub fn load_manifests(
         Err(StartError::Line(number)) => Err(ManifestsFault::Object(origin_of(&prepared, number))),
         Err(StartError::Memory) => Err(ManifestsFault::Memory),
     }
+}
+
+/// The lines of the policy of files.
+fn prepare_policy(
+    alloc: Global,
+    namespace: &str,
+    defaults: bool,
+    files: &[&[u8]],
+) -> Result<Prepared, Memory>
+    ensures loads { IfOk result (λ p. Loads program_rows scope.Policy namespace.now defaults (map (λ text. text.now) files.now) p) }
+    ensures faults { IfOk result (λ p. length p.faults.items ≡ faults_of namespace.now (map (λ text. text.now) files.now)) }
+{
+    let table = program_table(alloc)?;
+    let options = Options {
+        scope: Scope::Policy,
+        kinds: table.as_slice(),
+        namespace,
+        defaults,
+        words: false,
+    };
+    prepare(alloc, options, files)
 }
 
 /// Where the object of a line begins; file and line 0 if there is no such line.

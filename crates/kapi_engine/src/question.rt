@@ -1,18 +1,15 @@
 //! Questions: each is the `spec` of a SubjectAccessReview (Kubernetes API, authorization.k8s.io/v1), as a server reads
 //! it.
-ghost use Rattle.std.specs.Prelude.{◌≡◌, [], true, codes, IfOk, Some};
+ghost use Rattle.std.specs.Prelude.{◌≡◌, true, IfOk, Some};
 ghost use Rattle.serde_json.specs.View.{view};
 ghost use Rattle.kapi_object.specs.Admission.{read_as};
 ghost use Rattle.kapi_object.specs.Order.{is_ordered};
-ghost use Rattle.kapi_reviews.specs.Questions.{at, question};
-ghost use Rattle.kapi_reviews.specs.declared.kind.ReviewKind.TheVariants as ReviewKind;
 ghost use Rattle.kapi_engine.specs.Questions as asks;
 ghost use Rattle.kapi_engine.specs.Questions.{review_of};
 
 use kapi_model::{Identity, ResourceRow};
-use kapi_object::{ObjectError, admitted_tree, member, read_tree};
-use kapi_policy::PlainPolicy;
-use kapi_reviews::{Question, ReviewError, ReviewKind, read_question, review};
+use kapi_object::{ObjectError, admitted_tree, read_tree};
+use kapi_reviews::{Question, ReviewError, ReviewKind, read_review};
 use kapi_text::{Memory, Sequence, Text};
 use serde_json::{Map, Value, put};
 use std::alloc::{AllocError, Global};
@@ -52,40 +49,16 @@ fn question_in(alloc: Global, row: &ResourceRow, spec: Value) -> Result<Option<Q
 fn question_by(alloc: Global, tree: &Value) -> Result<Option<Question>, Memory>
     ensures { IfOk result (λ q. q ≡ asks.asked_by (view tree.now)) }
 {
-    let nobody = nobody(alloc)?;
-    if has_no_fault(alloc, &nobody, tree)? {
-        Ok(Some(question_in_review(alloc, &nobody, tree)?))
-    } else {
-        Ok(None)
-    }
-}
-
-/// Whether a review has no fault: whether a server over an empty policy answers it.
-#[tactic(auto, unfolding(kapi_reviews::specs::Reviews::reviewed))]
-fn has_no_fault(alloc: Global, nobody: &Identity, tree: &Value) -> Result<bool, Memory>
-    ensures { IfOk result (λ b. b ≡ asks.has_no_fault (view tree.now)) }
-{
-    let nothing = PlainPolicy::new(alloc);
-    match review(
+    match read_review(
         alloc,
-        &nothing,
-        nobody,
+        &nobody(alloc)?,
         ReviewKind::SubjectAccessReview,
         tree,
     ) {
-        Ok(_answer) => Ok(true),
-        Err(ReviewError::Invalid(_faults)) => Ok(false),
+        Ok(question) => Ok(Some(question)),
+        Err(ReviewError::Invalid(_faults)) => Ok(None),
         Err(ReviewError::Memory) => Err(AllocError),
     }
-}
-
-/// What the `spec` of a review asks.
-fn question_in_review(alloc: Global, nobody: &Identity, tree: &Value) -> Result<Question, Memory>
-    ensures { IfOk result (λ q. q ≡ question ReviewKind.SubjectAccessReview [] nobody.now (at (codes "spec") (view tree.now))) }
-{
-    let nothing = Value::Null;
-    let spec = member(tree, "spec").unwrap_or(&nothing);
-    read_question(alloc, ReviewKind::SubjectAccessReview, "", nobody, spec)
 }
 
 /// The identity that makes the review of a question: it does not count, as the review names a user and groups.

@@ -15,9 +15,9 @@ use crate::prepared_point::{PreparedPoint, ask};
 use crate::rules::CompiledRules;
 use crate::scope::Scope;
 use kapi_model::{Identity, PolicyRule, RoleBinding, RoleKind, RoleRef};
-use kapi_policy::{Binding, BindingKind, Decision, Grant, push_rules};
+use kapi_policy::{Binding, BindingKind, Decision, Grant};
 use kapi_rules::Point;
-use kapi_text::{Memory, Text};
+use kapi_text::{Memory, Text, TryCopy};
 use std::alloc::Global;
 use std::ops::Bound;
 
@@ -126,6 +126,16 @@ fn grant_by<'a>(
         Some(rules) => grant_in(binding, rules, asked),
         None => None,
     }
+}
+
+// Puts copies of rules at the end of a list.
+fn push_rules(alloc: Global, list: &mut Vec<PolicyRule>, rules: &[PolicyRule]) -> Result<(), Memory>
+    ensures { OnOk result (list.new.items ≡ list.old.items ++ rules.now) }
+{
+    for rule in rules {
+        list.push(rule.copy(alloc)?)?;
+    }
+    Ok(())
 }
 
 /// Puts the rules of the role that a binding in the namespace refers to at the end, if it exists.

@@ -5,7 +5,7 @@ use Rattle.std.specs.Borrow.{Bor}
 use Rattle.std.specs.Char.{is_ascii_alphabetic, to_ascii_lowercase}
 use Rattle.std.specs.List.{list_all}
 use Rattle.std.specs.Str.{bytes_eq}
-use Rattle.serde_json.specs.Data.{Data, boolean, object, Members, no_members, member}
+use Rattle.serde_json.specs.Data.{Data, Items, boolean, object, Members, no_members, member}
 use Rattle.serde_json.specs.Find.{as_array, as_bool, as_object, as_str, get, pointer}
 use Rattle.serde_json.specs.View.{view}
 use Rattle.serde_json.specs.declared.value.Value.{Value}
@@ -14,7 +14,7 @@ use Rattle.kapi_model.specs.Names.{is_dns_label, is_dns_subdomain}
 use Rattle.kapi_model.specs.declared.row.ResourceRow.{ResourceRow}
 use Rattle.kapi_model.specs.declared.row.Schema.TheVariants as schema
 use Rattle.kapi_core.specs.Table.{is_further, reviews_group}
-use Rattle.kapi_manifests.specs.Files.{items_or_none}
+use Rattle.kapi_manifests.specs.Files.{listed}
 use Rattle.kapi_manifests.specs.Kinds.{kind_of, text_or_empty, version_of}
 use Rattle.kapi_kinds.specs.declared.named.Named.{Named}
 
@@ -22,6 +22,11 @@ infixl 10 ◌>>=◌
 -- a value that depends on another, if there is one
 abbrev pub ◌>>=◌ : {A B : Type 0} → Option A → (A → Option B) → Option B
 o >>= f = option_and_then f o
+
+-- the items of an array, if there is one
+abbrev pub items_or_none : Option Items → List Data
+items_or_none (Some ds) = listed ds
+items_or_none None = []
 
 -- the resource type of an open schema with these names
 abbrev pub open_resource : List ℕ → List ℕ → List ℕ → List ℕ → Bool → Bool → ResourceRow

@@ -4,8 +4,7 @@ ghost use Rattle.std.specs.Result.{result_ok};
 ghost use Rattle.serde_json.specs.Find.{as_array, as_bool, as_str};
 ghost use Rattle.serde_json.specs.View.{members_view, view};
 ghost use Rattle.kapi_kinds.specs.Rows as rows;
-ghost use Rattle.kapi_kinds.specs.Rows.{keys, told, unless_absent};
-ghost use Rattle.kapi_manifests.specs.Files.{items_or_none};
+ghost use Rattle.kapi_kinds.specs.Rows.{items_or_none, keys, told, unless_absent};
 ghost use Rattle.kapi_manifests.specs.Kinds.{text_or_empty};
 ghost use Rattle.std.specs.List.{list_all};
 

@@ -71,10 +71,10 @@ pub line_refused : (Follows : PolicyObjects → Type 0) (m : Machine) (lines : L
     → Fails (fault_told f) (loaded m (map line_of lines))
 line_refused Follows m lines i d core next error.UnknownKind f below h fails is =
     subst (λ x. Fails (fault_told x) (loaded m (map line_of lines))) (sym is) (refused_with Follows m lines i d core next unknown_kind below h fails)
-line_refused Follows m lines i d core next error.Object f below h fails is =
-    subst (λ x. Fails (fault_told x) (loaded m (map line_of lines))) (sym is) (refused_with Follows m lines i d core next bad_object below h fails)
-line_refused Follows m lines i d core next error.Store f below h fails is =
-    subst (λ x. Fails (fault_told x) (loaded m (map line_of lines))) (sym is) (refused_with Follows m lines i d core next not_stored below h fails)
+line_refused Follows m lines i d core next (error.Object refused) f below h fails is =
+    subst (λ x. Fails (fault_told x) (loaded m (map line_of lines))) (sym is) (refused_with Follows m lines i d core next (bad_object refused) below h fails)
+line_refused Follows m lines i d core next (error.Store refused) f below h fails is =
+    subst (λ x. Fails (fault_told x) (loaded m (map line_of lines))) (sym is) (refused_with Follows m lines i d core next (not_stored refused) below h fails)
 line_refused Follows m lines i d core next error.Memory f below h fails is = subst (λ x. Fails (fault_told x) (loaded m (map line_of lines))) (sym is) tt
 
 -- all lines are loaded

@@ -3,3 +3,4 @@ pub mod Loading
 pub mod Starting
 pub mod Laws
 pub mod Settled
+pub mod Reasons

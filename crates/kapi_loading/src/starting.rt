@@ -36,7 +36,7 @@ pub fn load_policy(alloc: Global, objects: &[u8]) -> Result<Core<IndexedPolicy>,
 }
 
 /// The machine that begins with the opening objects.
-fn opened(
+pub fn opened(
     alloc: Global,
     table: &Sequence<ResourceRow>,
     first: u64,
@@ -49,7 +49,7 @@ fn opened(
 }
 
 /// The machine that begins without objects.
-fn emptied(
+pub fn emptied(
     alloc: Global,
     table: &Sequence<ResourceRow>,
     first: u64,

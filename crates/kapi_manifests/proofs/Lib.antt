@@ -1,3 +1,4 @@
 pub mod Listed
 pub mod Taken
 pub mod Wrote
+mod Groups

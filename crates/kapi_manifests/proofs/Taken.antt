@@ -31,11 +31,11 @@ joined f old mid new xs ys first second =
 -- some objects, and then others
 pub takes_more : (o : Options) (a b c : Sorted) (ds es : List Data) (n m : ℕ) → Takes o a b ds n → Takes o b c es m → Takes o a c (ds ++ es) (n + m)
 takes_more o a b c ds es n m first second =
-    let more : faults_among o.scope o.namespace.now (ds ++ es) ≡ faults_among o.scope o.namespace.now ds + faults_among o.scope o.namespace.now es =
-    sum_append (λ d. faults_if (sort_of o.scope o.namespace.now d)) ds es in
+    let more : faults_among o.kinds.now o.scope o.namespace.now (ds ++ es) ≡ faults_among o.kinds.now o.scope o.namespace.now ds + faults_among o.kinds.now o.scope o.namespace.now es =
+    sum_append (λ d. faults_if (sort_of o.kinds.now o.scope o.namespace.now d)) ds es in
     record {
-      namespaces = joined (λ d. namespace_if (sort_of o.scope o.namespace.now d) d) _ _ _ ds es first.namespaces second.namespaces;
-      objects = joined (λ d. object_if (sort_of o.scope o.namespace.now d) o.namespace.now d) _ _ _ ds es first.objects second.objects;
+      namespaces = joined (λ d. namespace_if (sort_of o.kinds.now o.scope o.namespace.now d) d) _ _ _ ds es first.namespaces second.namespaces;
+      objects = joined (λ d. object_if (sort_of o.kinds.now o.scope o.namespace.now d) o.namespace.now d) _ _ _ ds es first.objects second.objects;
       faults = omega (arith, more, first.faults, second.faults);
     }
 

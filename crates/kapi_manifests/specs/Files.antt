@@ -1,11 +1,13 @@
 -- The objects of files.
-use Rattle.std.specs.Prelude.{◌≡◌, ℕ, ◌+◌, ◌==◌, ◌&&◌, ◌||◌, nat_le, Bool, false, if◌then◌else◌, List, [], ◌∷◌, ◌++◌, length, slice_index, drop, take, flat_map, map, Option, Some, None, option_and_then, codes}
+use Rattle.std.specs.Prelude.{◌≡◌, ℕ, ◌+◌, ◌==◌, ◌&&◌, ◌||◌, nat_le, Bool, false, if◌then◌else◌, List, [], ◌∷◌, ◌++◌, length, slice_index, drop, take, flat_map, map, Option, Some, None, is_some, option_and_then, option_map, unwrap_or, codes}
+use Rattle.std.specs.List.{list_any}
 use Rattle.std.specs.Str.{is_utf8, bytes_eq}
 use Rattle.serde_json.specs.Data.{Data, Items, no_items, item}
 use Rattle.serde_json.specs.Find.{get, as_array}
 use Rattle.serde_json.specs.Read.{read}
 use Rattle.serde_json.specs.View.{view}
-use Rattle.kapi_manifests.specs.Kinds.{is_list, item_kind, kind_of, version_of}
+use Rattle.kapi_model.specs.declared.row.ResourceRow.{ResourceRow}
+use Rattle.kapi_manifests.specs.Kinds.{has_like_items, item_kind, kind_of, version_of}
 use Rattle.kapi_manifests.specs.Pieces.{pieces}
 use Rattle.kapi_manifests.specs.Sorting.{faults_if, item_of, namespace_if, object_if, sort_of}
 use Rattle.kapi_manifests.specs.declared.sorted.Found.{Found}
@@ -41,30 +43,44 @@ abbrev pub listed : Items → List Data
 listed no_items = []
 listed (item d ds) = d ∷ listed ds
 
-abbrev pub items_or_none : Option Items → List Data
-items_or_none (Some ds) = listed ds
-items_or_none None = []
+-- the items of a document, each of its kind
+abbrev pub items_as : Data → Items → List Data
+items_as d ds = map (item_of (item_kind (kind_of d)) (version_of d)) (listed ds)
 
--- the items of a document that is a list
-abbrev pub items_in : Data → List Data
-items_in d = items_or_none (option_and_then as_array (get (codes "items") d))
+-- what a document with this member `items` stands for: the items; nothing if that is no array
+abbrev pub opened_by : Data → Option Data → Option (List Data)
+opened_by d None = Some (d ∷ [])
+opened_by d (Some items) = option_map (items_as d) (as_array items)
 
--- the items of a document that is a list, each of its kind
-abbrev pub objects_listed : Data → List Data
-objects_listed d = map (item_of (item_kind (kind_of d)) (version_of d)) (items_in d)
+-- what a document stands for, whatever its kind: its items, if it has any, or itself (apimachinery, `UnstructuredJSONScheme`);
+-- nothing if readers differ on whether it has items
+abbrev pub opened : Data → Option (List Data)
+opened d = if has_like_items d then None else opened_by d (get (codes "items") d)
 
--- the objects of a document: the items of a list, or the document
-abbrev pub objects_in : Data → List Data
-objects_in d = if is_list d then objects_listed d else d ∷ []
+-- what documents stand for, in order, if each stands for something
+abbrev pub all_opened : List Data → Option (List Data)
+all_opened [] = Some []
+all_opened (d ∷ ds) = option_and_then (λ es. option_map (λ rest. es ++ rest) (all_opened ds)) (opened d)
+
+-- the document has items, or a member that is like them
+abbrev pub has_items : Data → Bool
+has_items d = has_like_items d || is_some (get (codes "items") d)
+
+abbrev pub without_items : List Data → Option (List Data)
+without_items ds = if list_any has_items ds then None else Some ds
+
+-- the objects of a document: its items, their items, and those of these; nothing if there are more below
+abbrev pub objects_in : Data → Option (List Data)
+objects_in d = option_and_then without_items (option_and_then all_opened (option_and_then all_opened (opened d)))
 
 -- the document that a piece is, as its objects
 abbrev pub objects_read : Read → List Data
-objects_read (document d) = objects_in d
+objects_read (document d) = unwrap_or (objects_in d) []
 objects_read fault = []
 
 -- how many faults a piece is
 abbrev pub faults_read : Read → ℕ
-faults_read (document d) = 0
+faults_read (document d) = if is_some (objects_in d) then 0 else 1
 faults_read fault = 1
 
 -- the first piece of a file begins like YAML
@@ -109,19 +125,19 @@ faults_found (found.Objects ms) = 0
 faults_found (found.Fault f) = 1
 
 -- the namespaces among objects
-abbrev pub namespaces_among : Scope → List ℕ → List Data → List Data
-namespaces_among scope given ds = flat_map (λ d. namespace_if (sort_of scope given d) d) ds
+abbrev pub namespaces_among : List ResourceRow → Scope → List ℕ → List Data → List Data
+namespaces_among table scope given ds = flat_map (λ d. namespace_if (sort_of table scope given d) d) ds
 
 -- the other objects that are loaded, as they are loaded
-abbrev pub loaded_among : Scope → List ℕ → List Data → List Data
-loaded_among scope given ds = flat_map (λ d. object_if (sort_of scope given d) given d) ds
+abbrev pub loaded_among : List ResourceRow → Scope → List ℕ → List Data → List Data
+loaded_among table scope given ds = flat_map (λ d. object_if (sort_of table scope given d) given d) ds
 
 -- how many objects are faults
-abbrev pub faults_among : Scope → List ℕ → List Data → ℕ
-faults_among scope given ds = sum_of (λ d. faults_if (sort_of scope given d)) ds
+abbrev pub faults_among : List ResourceRow → Scope → List ℕ → List Data → ℕ
+faults_among table scope given ds = sum_of (λ d. faults_if (sort_of table scope given d)) ds
 
 -- objects were taken, in order, and so many pieces that are faults
 pub record Takes (options : Options) (before : Sorted) (after : Sorted) (ds : List Data) (bad : ℕ) : Type 0 where
-  pub namespaces : map data_of after.namespaces.items ≡ map data_of before.namespaces.items ++ namespaces_among options.scope options.namespace.now ds
-  pub objects : map data_of after.objects.items ≡ map data_of before.objects.items ++ loaded_among options.scope options.namespace.now ds
-  pub faults : length after.faults.items ≡ length before.faults.items + (bad + faults_among options.scope options.namespace.now ds)
+  pub namespaces : map data_of after.namespaces.items ≡ map data_of before.namespaces.items ++ namespaces_among options.kinds.now options.scope options.namespace.now ds
+  pub objects : map data_of after.objects.items ≡ map data_of before.objects.items ++ loaded_among options.kinds.now options.scope options.namespace.now ds
+  pub faults : length after.faults.items ≡ length before.faults.items + (bad + faults_among options.kinds.now options.scope options.namespace.now ds)

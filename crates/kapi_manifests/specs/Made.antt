@@ -6,7 +6,8 @@ use Rattle.std.specs.Map.{lookup}
 use Rattle.std.specs.Ordering.{nat_cmp}
 use Rattle.serde_json.specs.Data.{Data, string, object, no_members, put}
 use Rattle.serde_json.specs.View.{view}
-use Rattle.kapi_manifests.specs.Kinds.{kind_of, lives_in_namespace, metadata_text}
+use Rattle.kapi_model.specs.declared.row.ResourceRow.{ResourceRow}
+use Rattle.kapi_manifests.specs.Kinds.{lives_in_namespace, metadata_text}
 use Rattle.kapi_manifests.specs.declared.fault.Origin.{Origin}
 use Rattle.kapi_manifests.specs.declared.sorted.Manifest.{Manifest}
 
@@ -31,9 +32,9 @@ with_names names (m ∷ ms) = with_names (with_name names (metadata_text (codes 
 abbrev pub known : List Manifest → Names
 known namespaces = with_names [] namespaces
 
--- the namespace that an object lives in; empty where it lives in none
-unfoldable pub home : Data → List ℕ
-home d = if lives_in_namespace (kind_of d) then metadata_text (codes "namespace") d else codes ""
+-- the namespace that an object lives in by a table of resource types; empty where it lives in none
+unfoldable pub home : List ResourceRow → Data → List ℕ
+home table d = if lives_in_namespace table d then metadata_text (codes "namespace") d else codes ""
 
 -- the names with one more, unless it is empty, from the first place that needs it
 abbrev pub with_need : Names → List ℕ → Origin → Names
@@ -41,9 +42,9 @@ with_need names name origin =
     if (length name == 0) then names else (if has names name then names else with_name names name origin)
 
 -- the names with the namespaces that objects live in
-unfoldable pub needed_from : Names → List Manifest → Names
-needed_from names [] = names
-needed_from names (m ∷ ms) = needed_from (with_need names (home (view m.object)) m.origin) ms
+unfoldable pub needed_from : List ResourceRow → Names → List Manifest → Names
+needed_from table names [] = names
+needed_from table names (m ∷ ms) = needed_from table (with_need names (home table (view m.object)) m.origin) ms
 
 -- the namespace of a name, as an object
 unfoldable pub namespace_of : List ℕ → Data
@@ -57,5 +58,5 @@ abbrev pub made_if : Names → List ℕ → List Data
 made_if names name = if has names name then [] else namespace_of name ∷ []
 
 -- the namespaces in which objects live, but the given ones, in the order of their names
-abbrev pub made : List Manifest → List Manifest → List Data
-made namespaces objects = flat_map (λ need. made_if (known namespaces) need.0) (needed_from [] objects)
+abbrev pub made : List ResourceRow → List Manifest → List Manifest → List Data
+made table namespaces objects = flat_map (λ need. made_if (known namespaces) need.0) (needed_from table [] objects)

@@ -1,7 +1,8 @@
 -- What each object of a file is to the machine that loads the files.
-use Rattle.std.specs.Prelude.{ℕ, ◌==◌, ◌&&◌, ◌||◌, not, Bool, true, false, if◌then◌else◌, List, [], ◌∷◌, length, codes, Option, Some}
+use Rattle.std.specs.Prelude.{ℕ, ◌==◌, ◌&&◌, ◌||◌, not, Bool, true, false, if◌then◌else◌, List, [], ◌∷◌, length, codes, Option, Some, is_some}
 use Rattle.serde_json.specs.Data.{Data, string, object, Members, no_members, put}
-use Rattle.serde_json.specs.Find.{get}
+use Rattle.serde_json.specs.Find.{as_object, get}
+use Rattle.kapi_model.specs.declared.row.ResourceRow.{ResourceRow}
 use Rattle.kapi_manifests.specs.Kinds.{is_namespace, is_policy, kind_of, lives_in_namespace, metadata_text, version_of}
 use Rattle.kapi_manifests.specs.declared.sorted.Scope.{Scope}
 use Rattle.kapi_manifests.specs.declared.sorted.Scope.TheVariants.{Policy, All}
@@ -18,20 +19,20 @@ abbrev pub sort_without_namespace : List ℕ → Sort
 sort_without_namespace given = if length given == 0 then sort.Homeless else sort.Placed
 
 -- an object that lives in a namespace and names none
-abbrev pub is_homeless : Data → Bool
-is_homeless d = lives_in_namespace (kind_of d) && (length (metadata_text (codes "namespace") d) == 0)
+abbrev pub is_homeless : List ResourceRow → Data → Bool
+is_homeless table d = lives_in_namespace table d && (length (metadata_text (codes "namespace") d) == 0)
 
 -- what an object is that is no namespace
-abbrev pub sort_of_object : Scope → List ℕ → Data → Sort
-sort_of_object scope given d =
+abbrev pub sort_of_object : List ResourceRow → Scope → List ℕ → Data → Sort
+sort_of_object table scope given d =
     if is_for_policy scope && not (is_policy d) then sort.Skipped
-    else (if is_homeless d then sort_without_namespace given else sort.Loaded)
+    else (if is_homeless table d then sort_without_namespace given else sort.Loaded)
 
--- what an object is, if objects without a namespace get the one that is given
-unfoldable pub sort_of : Scope → List ℕ → Data → Sort
-sort_of scope given d =
+-- what an object is by a table of resource types, if objects without a namespace get the one that is given
+unfoldable pub sort_of : List ResourceRow → Scope → List ℕ → Data → Sort
+sort_of table scope given d =
     if (length (kind_of d) == 0) || (length (version_of d) == 0) then sort.Nameless
-    else (if is_namespace d then sort.Namespace else sort_of_object scope given d)
+    else (if is_namespace d then sort.Namespace else sort_of_object table scope given d)
 
 -- the members of an object; none of anything else
 abbrev pub members_of : Option Data → Members
@@ -47,9 +48,13 @@ placed namespace d =
 unfoldable pub named : List ℕ → List ℕ → Data → Data
 named kind version d = object (put (codes "kind") (string kind) (put (codes "apiVersion") (string version) (members_of (Some d))))
 
--- an item of a list whose items are of that kind and version (no kind: any), which it need not name
+-- the value has members, and says nothing of its kind
+abbrev pub is_untyped : Data → Bool
+is_untyped d = is_some (as_object d) && ((length (kind_of d) == 0) && (length (version_of d) == 0))
+
+-- an item of a document whose items are of that kind and version (no kind: any), which it need not name
 abbrev pub item_of : List ℕ → List ℕ → Data → Data
-item_of kind version d = if (length kind == 0) || not (length (kind_of d) == 0) then d else named kind version d
+item_of kind version d = if not (length kind == 0) && is_untyped d then named kind version d else d
 
 -- the object, if it is a namespace that is loaded
 abbrev pub namespace_if : Sort → Data → List Data

@@ -3,6 +3,7 @@ use Rattle.std.specs.Prelude.{◌≡◌, ℕ, ◌≤◌, ◌+◌, List, [], ◌�
 use Rattle.std.specs.Str.{bytes_eq}
 use Rattle.serde_json.specs.Data.{Data, depth}
 use Rattle.serde_json.specs.Read.{max_depth, read}
+use Rattle.kapi_model.specs.declared.row.ResourceRow.{ResourceRow}
 use Rattle.kapi_manifests.specs.Dangling.{dangling, origin_of}
 use Rattle.kapi_manifests.specs.Files.{bad_pieces, data_of, faults_among, loaded_among, namespaces_among, objects_of, sum_of}
 use Rattle.kapi_manifests.specs.Kinds.{kind_of}
@@ -34,15 +35,15 @@ abbrev pub objects_in_all : List (List ℕ) → List Data
 objects_in_all texts = flat_map objects_of texts
 
 -- how many faults files have
-abbrev pub faults_in_all : Scope → List ℕ → List (List ℕ) → ℕ
-faults_in_all scope given texts = sum_of bad_pieces texts + faults_among scope given (objects_in_all texts)
+abbrev pub faults_in_all : List ResourceRow → Scope → List ℕ → List (List ℕ) → ℕ
+faults_in_all table scope given texts = sum_of bad_pieces texts + faults_among table scope given (objects_in_all texts)
 
 -- what is loaded of namespaces and other objects: the namespaces, beside those that every policy has; those that the
 -- objects live in besides; the roles and bindings that stand beneath, if the objects have no others; the objects
-pub record Loaded (defaults : Bool) (namespaces : List Manifest) (objects : List Manifest) (ds : List Data) : Type 0 where
+pub record Loaded (table : List ResourceRow) (defaults : Bool) (namespaces : List Manifest) (objects : List Manifest) (ds : List Data) : Type 0 where
   pub homes : List Manifest
   pub are_homes : map data_of homes ≡ standing_among (map data_of namespaces) standing_namespaces ++ map data_of namespaces
-  pub all : ds ≡ map data_of homes ++ (made homes objects ++ (standing_among (map data_of objects) (standing_objects defaults) ++ map data_of objects))
+  pub all : ds ≡ map data_of homes ++ (made table homes objects ++ (standing_among (map data_of objects) (standing_objects defaults) ++ map data_of objects))
 
 -- the object is of one of two kinds
 abbrev pub is_either : List ℕ → List ℕ → Data → Bool
@@ -62,9 +63,9 @@ pub record IsDangling (defaults : Bool) (origins : List Origin) (objects : List 
   pub all : origins ≡ dangling others objects
 
 -- sorted objects are written as lines
-pub record IsWritten (defaults : Bool) (s : Sorted) (p : Prepared) : Type 0 where
+pub record IsWritten (table : List ResourceRow) (defaults : Bool) (s : Sorted) (p : Prepared) : Type 0 where
   pub all : List Data
-  pub loaded : Loaded defaults s.namespaces.items s.objects.items all
+  pub loaded : Loaded table defaults s.namespaces.items s.objects.items all
   pub text : AreLines p.text.items all
   pub origins : length p.origins.items ≡ length all
   pub faults : p.faults ≡ s.faults
@@ -72,14 +73,14 @@ pub record IsWritten (defaults : Bool) (s : Sorted) (p : Prepared) : Type 0 wher
   pub bindings : p.bindings ≡ bindings_among (map data_of s.objects.items)
   pub dangling : IsDangling defaults (map origin_of p.dangling.items) s.objects.items
 
--- what is loaded of files, with the default roles beneath them or not, and a place for each line
-pub record Loads (scope : Scope) (given : List ℕ) (defaults : Bool) (texts : List (List ℕ)) (p : Prepared) : Type 0 where
+-- what is loaded of files by a table of resource types, with the default roles beneath them or not, and a place for each line
+pub record Loads (table : List ResourceRow) (scope : Scope) (given : List ℕ) (defaults : Bool) (texts : List (List ℕ)) (p : Prepared) : Type 0 where
   pub namespaces : List Manifest
   pub objects : List Manifest
   pub all : List Data
-  pub are_namespaces : map data_of namespaces ≡ namespaces_among scope given (objects_in_all texts)
-  pub are_objects : map data_of objects ≡ loaded_among scope given (objects_in_all texts)
-  pub loaded : Loaded defaults namespaces objects all
+  pub are_namespaces : map data_of namespaces ≡ namespaces_among table scope given (objects_in_all texts)
+  pub are_objects : map data_of objects ≡ loaded_among table scope given (objects_in_all texts)
+  pub loaded : Loaded table defaults namespaces objects all
   pub text : AreLines p.text.items all
   pub origins : length p.origins.items ≡ length all
   pub roles : p.roles ≡ roles_among (map data_of objects)

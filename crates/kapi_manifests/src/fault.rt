@@ -20,6 +20,9 @@ pub enum Reason {
     NotJson(usize, usize),
     /// The object is not closed.
     NotClosed,
+    /// It is not plain which objects the document has: its `items` are no array, are named in another case, or have lists
+    /// within lists within lists.
+    Items,
     /// The object has no `apiVersion` or no `kind` that is a text.
     NoKind,
     /// The object, of this kind and name, names no namespace, and lives in one.
@@ -47,6 +50,9 @@ impl fmt::Display for Reason {
                 )
             }
             Reason::NotClosed => f.write_str("the object that begins here is not closed"),
+            Reason::Items => f.write_str(
+                "kubectl takes a document with a member items for a list; they are no array, or named in another case, or nest too deep",
+            ),
             Reason::NoKind => f.write_str("apiVersion and kind: required, each a text"),
             Reason::NoNamespace(kind, name) => {
                 let kind = kind.as_str();

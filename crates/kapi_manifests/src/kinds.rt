@@ -1,10 +1,11 @@
 //! What an object says of itself, and what it is to a policy.
-ghost use Rattle.std.specs.Prelude.{◌≡◌, ◌||◌, codes, option_map, option_and_then, is_some};
-ghost use Rattle.serde_json.specs.Find.{get, as_array};
-ghost use Rattle.serde_json.specs.View.{view};
+ghost use Rattle.std.specs.Prelude.{◌≡◌};
+ghost use Rattle.std.specs.List.{list_any};
+ghost use Rattle.serde_json.specs.View.{members_view, view};
 ghost use Rattle.kapi_manifests.specs.Kinds as kinds;
 
-use serde_json::Value;
+use kapi_model::ResourceRow;
+use serde_json::{Map, Value};
 
 /// The text at a key; empty if there is none.
 pub fn text_at<'a>(object: &'a Value, key: &str) -> &'a str
@@ -57,52 +58,73 @@ pub fn is_namespace(object: &Value) -> bool
     text_at(object, "kind") == "Namespace" && text_at(object, "apiVersion") == "v1"
 }
 
-/// Whether objects of the kind live in a namespace.
-pub fn lives_in_namespace(kind: &str) -> bool
-    ensures { result ≡ kinds.lives_in_namespace kind.now }
+/// Whether objects of the group and the kind of this one live in a namespace, by a table of resource types.
+pub fn lives_in_namespace(table: &[ResourceRow], object: &Value) -> bool
+    ensures { result ≡ kinds.lives_in_namespace table.now (view object.now) }
 {
-    match kind {
-        "Role" | "RoleBinding" | "ConfigMap" | "Secret" | "ServiceAccount" | "Pod" | "Deployment" =>
-            true,
-        _ => false,
+    let group = group_of(text_at(object, "apiVersion"));
+    let kind = text_at(object, "kind");
+    table.iter().any(|row| is_namespaced(group, kind, row))
+}
+
+fn is_namespaced(group: &str, kind: &str, row: &ResourceRow) -> bool
+    ensures { result ≡ kinds.is_namespaced group.now kind.now row.now }
+{
+    row.namespaced && (row.kind.as_str() == kind && row.group.as_str() == group)
+}
+
+/// The API group of a version; empty for the core group.
+#[tactic(auto, unfolding(crate::specs::Kinds::group_of))]
+fn group_of(version: &str) -> &str
+    ensures { result.now ≡ kinds.group_of version.now }
+{
+    match version.split_once('/') {
+        Some((group, _version)) => group,
+        None => "",
     }
 }
 
-/// The kind of the items of a list of namespaces, definitions of kinds, roles or bindings, which may leave it out
-/// (Kubernetes API conventions, 'Lists and Simple kinds'); empty for lists of other kinds.
-pub fn item_kind(list: &str) -> &'static str
-    ensures { result.now ≡ kinds.item_kind list.now }
+/// The kind of the items of a document that name no kind: that of a list without `List`, for lists of namespaces,
+/// definitions of kinds, roles or bindings (apimachinery, `UnstructuredJSONScheme`); empty for other documents.
+pub fn item_kind(kind: &str) -> &'static str
+    ensures { result.now ≡ kinds.item_kind kind.now }
 {
-    match list {
-        "NamespaceList" => "Namespace",
+    match kind {
+        "NamespaceList" | "Namespace" => "Namespace",
         "CustomResourceDefinitionList" => "CustomResourceDefinition",
-        "RoleList" => "Role",
-        "RoleBindingList" => "RoleBinding",
-        "ClusterRoleList" => "ClusterRole",
-        "ClusterRoleBindingList" => "ClusterRoleBinding",
+        "RoleList" | "Role" => "Role",
+        "RoleBindingList" | "RoleBinding" => "RoleBinding",
+        "ClusterRoleList" | "ClusterRole" => "ClusterRole",
+        "ClusterRoleBindingList" | "ClusterRoleBinding" => "ClusterRoleBinding",
         _ => "",
     }
 }
 
-/// Whether a document is a list, which stands for its items (Kubernetes API, 'Collections').
-pub fn is_list(document: &Value) -> bool
-    ensures { result ≡ kinds.is_list (view document.now) }
+/// Whether a member of the document is like `items`: some readers take it for that (Go, `encoding/json`).
+pub fn has_like_items(document: &Value) -> bool
+    ensures { result ≡ kinds.has_like_items (view document.now) }
 {
-    ends_with(text_at(document, "kind").as_bytes(), b"List") && has_items(document)
-}
-
-#[tactic(auto, unfolding(crate::specs::Kinds::ends_with))]
-fn ends_with(text: &[u8], end: &[u8]) -> bool
-    ensures { result ≡ kinds.ends_with text.now end.now }
-{
-    text.split_at(text.len().saturating_sub(end.len())).1 == end
-}
-
-fn has_items(document: &Value) -> bool
-    ensures { result ≡ is_some (option_and_then as_array (get (codes "items") (view document.now))) }
-{
-    match document.get("items") {
-        Some(items) => items.is_array(),
-        None => false,
+    match document {
+        Value::Object(members) => names_like_items(members),
+        _ => false,
     }
+}
+
+fn names_like_items(members: &Map<String, Value>) -> bool
+    ensures { result ≡ list_any kinds.is_like_items (kinds.names_of (members_view members.now.entries)) }
+{
+    for (name, _value) in members {
+        if is_like_items(name.as_str()) {
+            return true;
+        }
+    }
+    false
+}
+
+/// Whether a name differs from `items` in the case of letters alone, or by a long s.
+fn is_like_items(name: &str) -> bool
+    ensures { result ≡ kinds.is_like_items name.now }
+{
+    name != "items"
+        && (name.eq_ignore_ascii_case("items") || name.eq_ignore_ascii_case("item\u{17f}"))
 }

@@ -6,25 +6,27 @@ ghost use Rattle.kapi_manifests.specs.Made as made;
 ghost use Rattle.kapi_manifests.specs.Made.{known, made_if, needed_from, with_need, with_name};
 
 use crate::fault::Origin;
-use crate::kinds::{lives_in_namespace, metadata_text, text_at};
+use crate::kinds::{lives_in_namespace, metadata_text};
 use crate::placing::namespace_object;
 use crate::sorted::Manifest;
+use kapi_model::ResourceRow;
 use kapi_text::{Memory, Text};
 use serde_json::Value;
 use std::alloc::Global;
 use std::collections::BTreeMap;
 
-/// The namespaces in which objects live, but the given ones, in the order of their names. Each begins where the first
+/// The namespaces in which objects live by a table of resource types, but the given ones, in the order of their names. Each begins where the first
 /// object in it begins.
 pub fn made_namespaces(
     alloc: Global,
+    table: &[ResourceRow],
     namespaces: &[Manifest],
     objects: &[Manifest],
 ) -> Result<Vec<Manifest>, Memory>
-    ensures { IfOk result (λ v. map data_of v.items ≡ made.made namespaces.now objects.now) }
+    ensures { IfOk result (λ v. map data_of v.items ≡ made.made table.now namespaces.now objects.now) }
 {
     let known = known_names(alloc, namespaces)?;
-    let needed = needed_names(alloc, objects)?;
+    let needed = needed_names(alloc, table, objects)?;
     let mut made = Vec::new(alloc);
     for (name, origin) in &needed {
         push_unknown(alloc, &mut made, &known, name, *origin)?;
@@ -78,12 +80,21 @@ fn insert_name(
 
 /// The namespaces that objects live in.
 #[tactic(auto, unfolding(crate::specs::Made::needed_from))]
-fn needed_names(alloc: Global, objects: &[Manifest]) -> Result<BTreeMap<Text, Origin>, Memory>
-    ensures { IfOk result (λ m. m.entries ≡ needed_from [] objects.now) }
+fn needed_names(
+    alloc: Global,
+    table: &[ResourceRow],
+    objects: &[Manifest],
+) -> Result<BTreeMap<Text, Origin>, Memory>
+    ensures { IfOk result (λ m. m.entries ≡ needed_from table.now [] objects.now) }
 {
     let mut needed = BTreeMap::new(alloc);
     for manifest in objects {
-        need(alloc, &mut needed, home(&manifest.object), manifest.origin)?;
+        need(
+            alloc,
+            &mut needed,
+            home(table, &manifest.object),
+            manifest.origin,
+        )?;
     }
     Ok(needed)
 }
@@ -110,10 +121,10 @@ fn need(
 
 /// The namespace that an object lives in; empty where its kind lives in none.
 #[tactic(auto, unfolding(crate::specs::Made::home))]
-fn home(object: &Value) -> &str
-    ensures { result.now ≡ made.home (view object.now) }
+fn home<'a>(table: &[ResourceRow], object: &'a Value) -> &'a str
+    ensures { result.now ≡ made.home table.now (view object.now) }
 {
-    if lives_in_namespace(text_at(object, "kind")) {
+    if lives_in_namespace(table, object) {
         metadata_text(object, "namespace")
     } else {
         ""

@@ -17,6 +17,7 @@ use crate::reading::take_file;
 use crate::sorted::{Manifest, Options, Sorted};
 use crate::standing::{Standing, standing_beside, standing_namespaces, standing_objects};
 use crate::words::Words;
+use kapi_model::ResourceRow;
 use kapi_text::{Memory, Text};
 use serde_json::Value;
 use std::alloc::Global;
@@ -45,8 +46,8 @@ pub struct Prepared {
 
 /// The lines that files are.
 pub fn prepare(alloc: Global, options: Options<'_>, files: &[&[u8]]) -> Result<Prepared, Memory>
-    ensures loads { IfOk result (λ p. Loads options.entry.scope options.entry.namespace.now options.entry.defaults (map (λ text. text.now) files.now) p) }
-    ensures faults { IfOk result (λ p. length p.faults.items ≡ faults_in_all options.entry.scope options.entry.namespace.now (map (λ text. text.now) files.now)) }
+    ensures loads { IfOk result (λ p. Loads options.entry.kinds.now options.entry.scope options.entry.namespace.now options.entry.defaults (map (λ text. text.now) files.now) p) }
+    ensures faults { IfOk result (λ p. length p.faults.items ≡ faults_in_all options.entry.kinds.now options.entry.scope options.entry.namespace.now (map (λ text. text.now) files.now)) }
 {
     let mut sorted = Sorted::new(alloc);
     take_files(alloc, &mut sorted, options, files)?;
@@ -72,7 +73,7 @@ fn take_files(
 
 /// Writes the objects as lines.
 fn write(alloc: Global, options: Options<'_>, sorted: Sorted) -> Result<Prepared, Memory>
-    ensures { IfOk result (λ p. IsWritten options.entry.defaults sorted p) }
+    ensures { IfOk result (λ p. IsWritten options.entry.kinds.now options.entry.defaults sorted p) }
 {
     let Sorted {
         namespaces,
@@ -86,14 +87,20 @@ fn write(alloc: Global, options: Options<'_>, sorted: Sorted) -> Result<Prepared
     let standing = standing.as_slice();
     let words = words_of(
         alloc,
-        options.words,
+        options,
         standing,
         namespaces.as_slice(),
         objects.as_slice(),
     )?;
     let homes = homes(alloc, namespaces)?;
     let dangling = dangling_beside(alloc, standing, objects.as_slice())?;
-    let lines = write_lines(alloc, standing, homes.as_slice(), objects.as_slice())?;
+    let lines = write_lines(
+        alloc,
+        options.kinds,
+        standing,
+        homes.as_slice(),
+        objects.as_slice(),
+    )?;
     Ok(Prepared {
         text: lines.text,
         origins: lines.origins,
@@ -106,17 +113,20 @@ fn write(alloc: Global, options: Options<'_>, sorted: Sorted) -> Result<Prepared
     })
 }
 
-/// The words that the objects name, and those beneath them; none if they are not wanted.
+/// The words that the objects name, those beneath them and the resources that are served; none if they are not wanted.
 fn words_of(
     alloc: Global,
-    wanted: bool,
+    options: Options<'_>,
     standing: &[Standing],
     namespaces: &[Manifest],
     objects: &[Manifest],
 ) -> Result<Words, Memory> {
     let others = standing_beside(alloc, standing, &[])?;
     let mut words = Words::new(alloc);
-    if wanted {
+    if options.words {
+        for row in options.kinds {
+            words.add_served(alloc, row)?;
+        }
         for manifest in others.iter().chain(namespaces.iter()).chain(objects.iter()) {
             words.add(alloc, &manifest.object)?;
         }
@@ -169,13 +179,14 @@ fn homes(alloc: Global, namespaces: Vec<Manifest>) -> Result<Vec<Manifest>, Memo
 /// The lines of the namespaces, given and made, of the standing roles and bindings, and of the objects.
 fn write_lines(
     alloc: Global,
+    table: &[ResourceRow],
     standing: &[Standing],
     homes: &[Manifest],
     objects: &[Manifest],
 ) -> Result<Lines, Memory>
-    ensures { IfOk result (λ l. AreOf l (map data_of homes.now ++ (made homes.now objects.now ++ (standing_among (map data_of objects.now) (map object_told standing.now) ++ map data_of objects.now)))) }
+    ensures { IfOk result (λ l. AreOf l (map data_of homes.now ++ (made table.now homes.now objects.now ++ (standing_among (map data_of objects.now) (map object_told standing.now) ++ map data_of objects.now)))) }
 {
-    let made = made_namespaces(alloc, homes, objects)?;
+    let made = made_namespaces(alloc, table, homes, objects)?;
     let beneath = standing_beside(alloc, standing, objects)?;
     let mut lines = Lines::new(alloc);
     lines.push_all(alloc, homes)?;

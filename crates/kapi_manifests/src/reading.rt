@@ -186,13 +186,27 @@ fn read_span(alloc: Global, source: Source<'_>, span: Span, shown: bool) -> Resu
         return Ok(Found::Fault(Fault { origin, reason }));
     }
     match Value::from_slice(alloc, text) {
-        Ok(document) => Ok(Found::Objects(objects_of(alloc, origin, text, document)?)),
+        Ok(document) => found_in(alloc, origin, text, document),
         Err(error) => {
             if error.is_memory() {
                 return Err(AllocError);
             }
             let before = column_before(source, span, shown);
             let reason = json_reason(origin.line, before, &error);
+            Ok(Found::Fault(Fault { origin, reason }))
+        }
+    }
+}
+
+/// The objects of a document, or the fault that it is.
+fn found_in(alloc: Global, origin: Origin, text: &[u8], document: Value) -> Result<Found, Memory>
+    ensures objects { IfOk result (λ f. objects_found f ≡ objects_read (files.document (view document))) }
+    ensures faults { IfOk result (λ f. faults_found f ≡ faults_read (files.document (view document))) }
+{
+    match objects_of(alloc, origin, text, document)? {
+        Some(objects) => Ok(Found::Objects(objects)),
+        None => {
+            let reason = Reason::Items;
             Ok(Found::Fault(Fault { origin, reason }))
         }
     }

@@ -7,6 +7,7 @@ ghost use Rattle.kapi_manifests.specs.Files.{Takes, data_of, faults_found, objec
 use crate::fault::{Fault, Origin, Reason};
 use crate::kinds::{is_namespace, is_policy, lives_in_namespace, metadata_text, text_at};
 use crate::placing::placed;
+use kapi_model::ResourceRow;
 use kapi_text::{Memory, Text};
 use serde_json::Value;
 use std::alloc::Global;
@@ -25,6 +26,8 @@ pub enum Scope {
 #[derive(Clone, Copy)]
 pub struct Options<'a> {
     pub scope: Scope,
+    /// The resource types that are served, by which it is known what lives in a namespace.
+    pub kinds: &'a [ResourceRow],
     /// The namespace of objects that name none and live in one; empty if none is given.
     pub namespace: &'a str,
     /// Whether Kubernetes' user-facing roles stand beneath the files.
@@ -78,7 +81,7 @@ pub enum Sort {
 /// What an object is.
 #[tactic(auto, unfolding(crate::specs::Sorting::sort_of))]
 pub fn sort_of(options: Options<'_>, object: &Value) -> Sort
-    ensures { result ≡ sorting.sort_of options.entry.scope options.entry.namespace.now (view object.now) }
+    ensures { result ≡ sorting.sort_of options.entry.kinds.now options.entry.scope options.entry.namespace.now (view object.now) }
 {
     if text_at(object, "kind").is_empty() || text_at(object, "apiVersion").is_empty() {
         return Sort::Nameless;
@@ -91,22 +94,22 @@ pub fn sort_of(options: Options<'_>, object: &Value) -> Sort
 
 /// What an object is that is no namespace.
 fn sort_of_object(options: Options<'_>, object: &Value) -> Sort
-    ensures { result ≡ sorting.sort_of_object options.entry.scope options.entry.namespace.now (view object.now) }
+    ensures { result ≡ sorting.sort_of_object options.entry.kinds.now options.entry.scope options.entry.namespace.now (view object.now) }
 {
     if is_for_policy(options.scope) && !is_policy(object) {
         return Sort::Skipped;
     }
-    if is_homeless(object) {
+    if is_homeless(options.kinds, object) {
         return sort_without_namespace(options.namespace);
     }
     Sort::Loaded
 }
 
 /// Whether an object lives in a namespace and names none.
-fn is_homeless(object: &Value) -> bool
-    ensures { result ≡ sorting.is_homeless (view object.now) }
+fn is_homeless(table: &[ResourceRow], object: &Value) -> bool
+    ensures { result ≡ sorting.is_homeless table.now (view object.now) }
 {
-    lives_in_namespace(text_at(object, "kind")) && metadata_text(object, "namespace").is_empty()
+    lives_in_namespace(table, object) && metadata_text(object, "namespace").is_empty()
 }
 
 fn is_for_policy(scope: Scope) -> bool

@@ -1,6 +1,7 @@
 //! The words that objects name: verbs and resources of rules, subjects of bindings, and namespaces.
 
 use crate::kinds::{is_namespace, metadata_text, text_at};
+use kapi_model::ResourceRow;
 use kapi_text::{Memory, Text};
 use serde_json::Value;
 use std::alloc::Global;
@@ -39,6 +40,11 @@ impl Words {
             "namespace"
         };
         self.insert(alloc, "namespace", metadata_text(object, key))
+    }
+
+    /// Adds the resource of a resource type that is served.
+    pub fn add_served(&mut self, alloc: Global, row: &ResourceRow) -> Result<(), Memory> {
+        self.insert(alloc, "resource", row.plural.as_str())
     }
 
     fn insert(&mut self, alloc: Global, what: &str, word: &str) -> Result<(), Memory> {

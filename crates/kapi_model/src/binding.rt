@@ -27,12 +27,3 @@ impl TryCopy for RoleBinding {
         })
     }
 }
-
-impl TryCopy for ClusterRoleBinding {
-    fn copy(&self, alloc: Global) -> Result<ClusterRoleBinding, AllocError> {
-        Ok(ClusterRoleBinding {
-            subjects: self.subjects.copy(alloc)?,
-            role_ref: self.role_ref.copy(alloc)?,
-        })
-    }
-}

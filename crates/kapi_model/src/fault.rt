@@ -1,7 +1,6 @@
 ghost use Rattle.std.specs.Prelude.{◌≡◌};
 
-use kapi_text::{Text, TryCopy};
-use std::alloc::{AllocError, Global};
+use kapi_text::Text;
 
 /// What is wrong with a member of an object.
 #[derive(Clone, Copy, PartialEq, Eq)]
@@ -37,13 +36,4 @@ impl FaultKind {
 pub struct FieldFault {
     pub field: Text,
     pub cause: FaultKind,
-}
-
-impl TryCopy for FieldFault {
-    fn copy(&self, alloc: Global) -> Result<FieldFault, AllocError> {
-        Ok(FieldFault {
-            field: self.field.copy(alloc)?,
-            cause: self.cause,
-        })
-    }
 }

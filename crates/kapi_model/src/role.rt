@@ -1,7 +1,6 @@
 use crate::aggregation_rule::AggregationRule;
 use crate::policy_rule::PolicyRule;
-use kapi_text::{Sequence, TryCopy};
-use std::alloc::{AllocError, Global};
+use kapi_text::Sequence;
 
 /// What is allowed in a namespace (Kubernetes API, `Role` of rbac.authorization.k8s.io/v1).
 #[derive(Drop)]
@@ -15,21 +14,4 @@ pub struct Role {
 pub struct ClusterRole {
     pub aggregation_rule: Option<AggregationRule>,
     pub rules: Sequence<PolicyRule>,
-}
-
-impl TryCopy for Role {
-    fn copy(&self, alloc: Global) -> Result<Role, AllocError> {
-        Ok(Role {
-            rules: self.rules.copy(alloc)?,
-        })
-    }
-}
-
-impl TryCopy for ClusterRole {
-    fn copy(&self, alloc: Global) -> Result<ClusterRole, AllocError> {
-        Ok(ClusterRole {
-            aggregation_rule: self.aggregation_rule.copy(alloc)?,
-            rules: self.rules.copy(alloc)?,
-        })
-    }
 }

@@ -4,9 +4,9 @@ ghost use Rattle.kapi_object.specs.Given.{given_of, text_given};
 ghost use Rattle.kapi_object.specs.Tree.{member_of, metadata_member};
 
 use crate::tree::member;
-use kapi_text::{Memory, Text, TryCopy};
+use kapi_text::{Memory, Text};
 use serde_json::Value;
-use std::alloc::{AllocError, Global};
+use std::alloc::Global;
 
 /// The value of a member if a text is expected.
 #[derive(Drop)]
@@ -18,16 +18,6 @@ pub enum GivenText {
     Mistyped,
 }
 
-impl TryCopy for GivenText {
-    fn copy(&self, alloc: Global) -> Result<GivenText, AllocError> {
-        match self {
-            GivenText::Absent => Ok(GivenText::Absent),
-            GivenText::Text(text) => Ok(GivenText::Text(text.copy(alloc)?)),
-            GivenText::Mistyped => Ok(GivenText::Mistyped),
-        }
-    }
-}
-
 /// What an object's metadata specifies as its name, its namespace and its resource version.
 #[derive(Drop)]
 pub struct Given {
@@ -35,16 +25,6 @@ pub struct Given {
     /// The namespace; absent for resource types without namespaces.
     pub namespace: GivenText,
     pub resource_version: GivenText,
-}
-
-impl TryCopy for Given {
-    fn copy(&self, alloc: Global) -> Result<Given, AllocError> {
-        Ok(Given {
-            name: self.name.copy(alloc)?,
-            namespace: self.namespace.copy(alloc)?,
-            resource_version: self.resource_version.copy(alloc)?,
-        })
-    }
 }
 
 /// The value of a key in an object.

@@ -1,9 +1,10 @@
 -- Paths are written without floats, and what an answer is.
-use Rattle.std.proofs.Common.{◌≡◌, ◌∙◌, ℕ, Bool, List, [], ◌∷◌, false, map, refl, subst}
+use Rattle.std.proofs.Common.{◌≡◌, ◌∙◌, ℕ, List, [], ◌∷◌, false, map, refl, subst}
 use Rattle.serde_json.specs.View.{items_of}
 use Rattle.serde_json.specs.Written.{has_float, items_have_float}
 use Rattle.kapi_policy.specs.Decided.{Binding}
 use Rattle.kapi_policy.specs.Objects.{PolicyObjects}
+use Rattle.kapi_lines.specs.declared.form.Form.{Form}
 use Rattle.kapi_paths.specs.Chains.{Has}
 use Rattle.kapi_paths.specs.Gathered.{known_of}
 use Rattle.kapi_paths.specs.Graphs.{AreApart, HasAll, IsPath, next_of}
@@ -23,10 +24,10 @@ pub path_has_no_float : (p : Path) (steps : List Step) → has_float (path_tree 
 path_has_no_float p steps = rw (steps_have_no_float steps) refl
 
 -- what is known of the bindings is what the answer says
-pub answered : (objects : PolicyObjects) (bindings bound : List Binding) (known : Known) (rows rights : List Row) (is_json : Bool) (to text : List ℕ) (paths : List Path)
+pub answered : (objects : PolicyObjects) (bindings bound : List Binding) (known : Known) (rows rights : List Row) (f : Form) (to text : List ℕ) (paths : List Path)
     → bound ≡ bindings → known ≡ known_of bindings → rights ≡ rows → ((p : Path) → Has paths p → IsPath (next_of objects bound known rights) (sources bound) p) → AreApart paths
-    → HasAll (next_of objects bound known rights) (sources bound) paths → text ≡ printed objects bound known rights is_json to paths → IsAnswer objects bindings rows is_json to text
-answered objects bindings bound known rows rights is_json to text paths b k r each once listed is =
+    → HasAll (next_of objects bound known rights) (sources bound) paths → text ≡ printed objects bound known rights f to paths → IsAnswer objects bindings rows f to text
+answered objects bindings bound known rows rights f to text paths b k r each once listed is =
     let Steps : Type 0 = (Node → List Node) × List Node in
     let at : (next_of objects bound known rights, sources bound) ≡ (next_of objects bindings (known_of bindings) rows, sources bindings) = λ i. (next_of objects (b i) (k i) (r i), sources (b i)) in
     record {
@@ -34,5 +35,5 @@ answered objects bindings bound known rows rights is_json to text paths b k r ea
       each = λ p h. let P : Steps → Type 0 = λ s. IsPath s.0 s.1 p in subst P at (each p h);
       once = once;
       listed = let P : Steps → Type 0 = λ s. HasAll s.0 s.1 paths in subst P at listed;
-      printed_is = is ∙ (λ i. printed objects (b i) (k i) (r i) is_json to paths);
+      printed_is = is ∙ (λ i. printed objects (b i) (k i) (r i) f to paths);
     }

@@ -6,7 +6,8 @@ use Rattle.std.specs.Str.{bytes_eq}
 use Rattle.serde_json.specs.Data.{Data, array, member, no_members, object, string}
 use Rattle.serde_json.specs.View.{items_of}
 use Rattle.serde_json.specs.Written.{compact_text}
-use Rattle.kapi_lines.specs.Escapes.{escaped}
+use Rattle.kapi_lines.specs.declared.form.Form.{Form}
+use Rattle.kapi_lines.specs.declared.form.Form.TheVariants as form
 use Rattle.kapi_model.specs.Subjects.{subject_matches}
 use Rattle.kapi_model.specs.declared.identity.Identity.{Identity}
 use Rattle.kapi_model.specs.declared.policy_rule.PolicyRule.{PolicyRule}
@@ -29,6 +30,7 @@ use Rattle.kapi_paths.specs.declared.path.Path.{Path}
 use Rattle.kapi_paths.specs.declared.printed.Reason.{Reason as ReasonOfCode}
 use Rattle.kapi_paths.specs.declared.printed.Step.{Step}
 use Rattle.kapi_paths.specs.declared.steps.Known.{Known}
+use Rattle.kapi_report.specs.Reports.{printable}
 
 -- ---- names
 
@@ -144,7 +146,7 @@ steps_of objects bindings known rows p = steps objects bindings known rows [] p.
 -- ---- lines
 
 abbrev pub line : List ℕ → List ℕ
-line text = escaped text ++ 10 ∷ []
+line text = printable text ++ 10 ∷ []
 
 -- the ends of a path
 abbrev pub ends_text : Path → List ℕ
@@ -152,12 +154,16 @@ ends_text p = node_text p.from ++ (codes " -> " ++ node_text p.to)
 
 abbrev pub step_text : Step → List ℕ
 step_text s =
-    if length s.by == 0 then codes "  " ++ (s.right ++ (codes " -> " ++ s.to))
-    else codes "  " ++ (s.right ++ (codes " (" ++ (s.by ++ (codes ") -> " ++ s.to))))
+    if length s.by == 0 then s.right ++ (codes " -> " ++ s.to)
+    else s.right ++ (codes " (" ++ (s.by ++ (codes ") -> " ++ s.to)))
+
+-- a step, below the ends
+abbrev pub step_line : Step → List ℕ
+step_line s = codes "  " ++ line (step_text s)
 
 -- a path as a line, and its steps below
 abbrev pub path_lines : Path → List Step → List ℕ
-path_lines p steps = line (ends_text p) ++ flat_map (λ s. line (step_text s)) steps
+path_lines p steps = line (ends_text p) ++ flat_map step_line steps
 
 -- ---- JSON
 
@@ -175,8 +181,9 @@ path_object p steps = compact_text (path_tree p steps) ++ 10 ∷ []
 
 -- ---- answers
 
-abbrev pub path_text : Bool → Path → List Step → List ℕ
-path_text is_json p steps = if is_json then path_object p steps else path_lines p steps
+abbrev pub path_text : Form → Path → List Step → List ℕ
+path_text form.Json p steps = path_object p steps
+path_text other p steps = path_lines p steps
 
 -- the path leads to whom it is to, as it is printed, or to everything; no name stands for all
 abbrev pub is_wanted : List ℕ → Path → Bool
@@ -187,22 +194,30 @@ abbrev pub unseen : List ℕ
 unseen = codes "Not looked at: pod security, admission, the rights of nodes, and what runs in the cluster.\n"
 
 -- a path that is wanted, with its steps
-abbrev pub wanted_text : PolicyObjects → List Binding → Known → List Row → Bool → List ℕ → Path → List ℕ
-wanted_text objects bindings known rows is_json to p =
-    if is_wanted to p then path_text is_json p (steps_of objects bindings known rows p) else []
+abbrev pub wanted_text : PolicyObjects → List Binding → Known → List Row → Form → List ℕ → Path → List ℕ
+wanted_text objects bindings known rows f to p =
+    if is_wanted to p then path_text f p (steps_of objects bindings known rows p) else []
+
+-- in Markdown, paths are a block of text (GitHub Flavored Markdown, 'Fenced code blocks')
+abbrev pub fence : Form → List ℕ
+fence form.Markdown = codes "```\n"
+fence form.Json = []
+fence form.Table = []
 
 -- the last line
-abbrev pub end : Bool → List ℕ
-end is_json = if is_json then [] else unseen
+abbrev pub end : Form → List ℕ
+end form.Json = []
+end form.Table = unseen
+end form.Markdown = unseen
 
 -- those of the paths that are wanted; as text the last line says what was not looked at
-abbrev pub printed : PolicyObjects → List Binding → Known → List Row → Bool → List ℕ → List Path → List ℕ
-printed objects bindings known rows is_json to paths = flat_map (wanted_text objects bindings known rows is_json to) paths ++ end is_json
+abbrev pub printed : PolicyObjects → List Binding → Known → List Row → Form → List ℕ → List Path → List ℕ
+printed objects bindings known rows f to paths = fence f ++ (flat_map (wanted_text objects bindings known rows f to) paths ++ (end f ++ fence f))
 
 -- the text is that of paths: from each subject of a binding a shortest one to everything, or else to each other node that it reaches
-pub record IsAnswer (objects : PolicyObjects) (bindings : List Binding) (rows : List Row) (is_json : Bool) (to text : List ℕ) : Type 0 where
+pub record IsAnswer (objects : PolicyObjects) (bindings : List Binding) (rows : List Row) (f : Form) (to text : List ℕ) : Type 0 where
   pub paths : List Path
   pub each : (p : Path) → Has paths p → IsPath (next_of objects bindings (known_of bindings) rows) (sources bindings) p
   pub once : AreApart paths
   pub listed : HasAll (next_of objects bindings (known_of bindings) rows) (sources bindings) paths
-  pub printed_is : text ≡ printed objects bindings (known_of bindings) rows is_json to paths
+  pub printed_is : text ≡ printed objects bindings (known_of bindings) rows f to paths

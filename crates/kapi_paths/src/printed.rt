@@ -2,7 +2,6 @@
 ghost use Rattle.std.specs.Prelude.{◌≡◌, ◌++◌, ◌∷◌, [], IfOk, OnOk, map, option_map, string_bytes};
 ghost use Rattle.std.specs.List.{find, flat_map};
 ghost use Rattle.serde_json.specs.View.{items_of, items_view, view};
-ghost use Rattle.kapi_lines.specs.Escapes.{escaped};
 ghost use Rattle.kapi_policy.specs.Views.{binding_of};
 ghost use Rattle.kapi_paths.specs.Asked.{rules_at as rules_at_of};
 ghost use Rattle.kapi_paths.specs.Printed as printed;
@@ -16,16 +15,20 @@ use crate::node::{Node, NodeKind};
 use crate::path::{Path, is_listed, paths};
 use crate::right::{Right, rights_without};
 use crate::steps::{Question, held_kind, identity_of, is_bound, push_by_right, rules_held};
-use kapi_lines::write_escaped;
+use kapi_lines::Form;
 use kapi_model::{Identity, PolicyRule, RoleKind, RoleRef};
 use kapi_policy::{Binding, BindingKind, Policy};
+use kapi_report::escape;
 use kapi_text::{Memory, Text, TryCopy};
-use serde_json::{Map, Value, json, put};
-use std::alloc::{AllocError, Global};
+use serde_json::{Value, json};
+use std::alloc::Global;
 
 /// What no path takes into account.
 const UNSEEN: &str =
     "Not looked at: pod security, admission, the rights of nodes, and what runs in the cluster.\n";
+
+/// What begins and ends a block of text in Markdown.
+const FENCE: &str = "```\n";
 
 /// A step as it is printed: by which right, given by what, and to whom.
 #[derive(Drop)]
@@ -73,36 +76,26 @@ fn role_text(alloc: Global, role: &Node) -> Result<String, Memory>
     }
 }
 
-fn held_role(alloc: Global, role: &Node) -> Result<String, Memory>
-    ensures { IfOk result (λ s. string_bytes s ≡ printed.held_at (printed.role_text role.now.kind role.now.name) role.now.place) }
-{
-    held_at(alloc, role_text(alloc, role)?.as_str(), role.place.as_str())
-}
-
-fn node_string(alloc: Global, node: &Node) -> Result<String, Memory>
-    ensures { IfOk result (λ s. string_bytes s ≡ printed.node_text node.now) }
+fn node_text(alloc: Global, node: &Node) -> Result<Text, Memory>
+    ensures { IfOk result (λ t. t ≡ printed.node_text node.now) }
 {
     let name = node.name.as_str();
     let namespace = node.place.as_str();
     let place = place_of(namespace);
-    match node.kind {
-        NodeKind::Everything => String::from_str(alloc, "everything"),
-        NodeKind::EveryUser => String::from_str(alloc, "every user"),
-        NodeKind::All => format!(in alloc; "all in {place}"),
-        NodeKind::Accounts => format!(in alloc; "accounts of {place}"),
-        NodeKind::Limits => format!(in alloc; "limits of {place}"),
-        NodeKind::User => format!(in alloc; "User {name}"),
-        NodeKind::Group => format!(in alloc; "Group {name}"),
-        NodeKind::Account => format!(in alloc; "ServiceAccount {namespace}/{name}"),
-        NodeKind::Role => held_role(alloc, node),
-        NodeKind::ClusterRole => held_role(alloc, node),
-    }
-}
-
-fn node_text(alloc: Global, node: &Node) -> Result<Text, Memory>
-    ensures { IfOk result (λ t. t ≡ printed.node_text node.now) }
-{
-    Ok(Text::new(node_string(alloc, node)?))
+    let text = match node.kind {
+        NodeKind::Everything => String::from_str(alloc, "everything")?,
+        NodeKind::EveryUser => String::from_str(alloc, "every user")?,
+        NodeKind::All => format!(in alloc; "all in {place}")?,
+        NodeKind::Accounts => format!(in alloc; "accounts of {place}")?,
+        NodeKind::Limits => format!(in alloc; "limits of {place}")?,
+        NodeKind::User => format!(in alloc; "User {name}")?,
+        NodeKind::Group => format!(in alloc; "Group {name}")?,
+        NodeKind::Account => format!(in alloc; "ServiceAccount {namespace}/{name}")?,
+        NodeKind::Role | NodeKind::ClusterRole => {
+            held_at(alloc, role_text(alloc, node)?.as_str(), namespace)?
+        }
+    };
+    Ok(Text::new(text))
 }
 
 fn binding_text(alloc: Global, binding: &Binding<'_>) -> Result<Text, Memory>
@@ -110,14 +103,11 @@ fn binding_text(alloc: Global, binding: &Binding<'_>) -> Result<Text, Memory>
 {
     let namespace = binding.namespace;
     let name = binding.name;
-    match binding.kind {
-        BindingKind::RoleBinding => {
-            Ok(Text::new(format!(in alloc; "RoleBinding {namespace}/{name}")?))
-        }
-        BindingKind::ClusterRoleBinding => {
-            Ok(Text::new(format!(in alloc; "ClusterRoleBinding {name}")?))
-        }
-    }
+    let text = match binding.kind {
+        BindingKind::RoleBinding => format!(in alloc; "RoleBinding {namespace}/{name}")?,
+        BindingKind::ClusterRoleBinding => format!(in alloc; "ClusterRoleBinding {name}")?,
+    };
+    Ok(Text::new(text))
 }
 
 fn right_words(alloc: Global, right: &Right) -> Result<String, Memory>
@@ -138,20 +128,15 @@ fn right_text(alloc: Global, right: &Right, place: &str) -> Result<Text, Memory>
     Ok(Text::new(held_at(alloc, right_words(alloc, right)?.as_str(), place)?))
 }
 
-fn by_string(alloc: Global, binding: &str, role: &str, rule: usize) -> Result<String, Memory>
-    ensures { IfOk result (λ s. string_bytes s ≡ printed.by_text binding.now role.now rule) }
-{
-    if binding.is_empty() {
-        return format!(in alloc; "{role}, rule {rule}");
-    }
-    format!(in alloc; "{binding}, {role}, rule {rule}")
-}
-
 fn by_text(alloc: Global, binding: &str, role: &Node, rule: usize) -> Result<Text, Memory>
     ensures { IfOk result (λ t. t ≡ printed.by_text binding.now (printed.role_text role.now.kind role.now.name) rule) }
 {
     let role = role_text(alloc, role)?;
-    Ok(Text::new(by_string(alloc, binding, role.as_str(), rule)?))
+    let role = role.as_str();
+    if binding.is_empty() {
+        return Ok(Text::new(format!(in alloc; "{role}, rule {rule}")?));
+    }
+    Ok(Text::new(format!(in alloc; "{binding}, {role}, rule {rule}")?))
 }
 
 // ---- reasons
@@ -209,18 +194,6 @@ fn first_right<P: Policy>(
     Ok(None)
 }
 
-fn rules_of<'a, P: Policy>(
-    alloc: Global,
-    policy: &'a P,
-    kind: RoleKind,
-    role: &Node,
-) -> Result<&'a [PolicyRule], Memory>
-    ensures { IfOk result (λ s. s.now ≡ rules_at_of (P.content policy.now) (held_kind_of kind) role.now.place role.now.name) }
-{
-    let name = role.name.copy(alloc)?;
-    Ok(rules_held(policy, &RoleRef { kind, name }, role.place.as_str()))
-}
-
 // The rules of a role; another node has none.
 fn rules_at<'a, P: Policy>(
     alloc: Global,
@@ -229,11 +202,13 @@ fn rules_at<'a, P: Policy>(
 ) -> Result<&'a [PolicyRule], Memory>
     ensures { IfOk result (λ s. s.now ≡ rules_at_of (P.content policy.now) node.now.kind node.now.place node.now.name) }
 {
-    match node.kind {
-        NodeKind::Role => rules_of(alloc, policy, RoleKind::Role, node),
-        NodeKind::ClusterRole => rules_of(alloc, policy, RoleKind::ClusterRole, node),
-        _ => Ok(&[]),
-    }
+    let kind = match node.kind {
+        NodeKind::Role => RoleKind::Role,
+        NodeKind::ClusterRole => RoleKind::ClusterRole,
+        _ => return Ok(&[]),
+    };
+    let name = node.name.copy(alloc)?;
+    Ok(rules_held(policy, &RoleRef { kind, name }, node.place.as_str()))
 }
 
 // The first rule of the role that leads to the node, and the first right by which it does.
@@ -303,13 +278,18 @@ fn steps<P: Policy>(
 
 // ---- lines
 
-fn push_line(text: &mut Vec<u8>, line: &str) -> Result<(), Memory>
+fn push_line(alloc: Global, text: &mut Vec<u8>, line: &str) -> Result<(), Memory>
     ensures { OnOk result (text.new.items ≡ text.old.items ++ printed.line line.now) }
 {
-    match write_escaped(text, line.as_bytes()) {
-        Ok(()) => text.extend_from_slice(b"\n"),
-        Err(_refused) => Err(AllocError),
-    }
+    text.extend_from_slice(escape(alloc, line.as_bytes())?.as_slice())?;
+    text.extend_from_slice(b"\n")
+}
+
+fn push_step(alloc: Global, text: &mut Vec<u8>, step: &Step) -> Result<(), Memory>
+    ensures { OnOk result (text.new.items ≡ text.old.items ++ printed.step_line step.now) }
+{
+    text.extend_from_slice(b"  ")?;
+    push_line(alloc, text, step_text(alloc, step)?.as_str())
 }
 
 fn ends_text(alloc: Global, path: &Path) -> Result<String, Memory>
@@ -328,18 +308,18 @@ fn step_text(alloc: Global, step: &Step) -> Result<String, Memory>
     let by = step.by.as_str();
     let to = step.to.as_str();
     if by.is_empty() {
-        return format!(in alloc; "  {right} -> {to}");
+        return format!(in alloc; "{right} -> {to}");
     }
-    format!(in alloc; "  {right} ({by}) -> {to}")
+    format!(in alloc; "{right} ({by}) -> {to}")
 }
 
 // Writes a path as a line, and its steps below.
 fn push_lines(alloc: Global, text: &mut Vec<u8>, path: &Path, steps: &[Step]) -> Result<(), Memory>
     ensures { OnOk result (text.new.items ≡ text.old.items ++ printed.path_lines path.now steps.now) }
 {
-    push_line(text, ends_text(alloc, path)?.as_str())?;
+    push_line(alloc, text, ends_text(alloc, path)?.as_str())?;
     for step in steps {
-        push_line(text, step_text(alloc, step)?.as_str())?;
+        push_step(alloc, text, step)?;
     }
     Ok(())
 }
@@ -368,14 +348,10 @@ fn step_trees(alloc: Global, steps: &[Step]) -> Result<Vec<Value>, Memory>
 fn path_tree(alloc: Global, path: &Path, steps: &[Step]) -> Result<Value, Memory>
     ensures { IfOk result (λ v. view v ≡ printed.path_tree path.now steps.now) }
 {
-    let from = node_string(alloc, &path.from)?;
-    let to = node_string(alloc, &path.to)?;
+    let from = node_text(alloc, &path.from)?;
+    let to = node_text(alloc, &path.to)?;
     let steps = step_trees(alloc, steps)?;
-    let mut members = Map::new(alloc);
-    put(&mut members, alloc, "from", Value::String(from))?;
-    put(&mut members, alloc, "steps", Value::Array(steps))?;
-    put(&mut members, alloc, "to", Value::String(to))?;
-    Ok(Value::Object(members))
+    json!(in alloc; {"from": (from.as_str()), "steps": steps, "to": (to.as_str())})
 }
 
 // Writes a path as a JSON object on a line.
@@ -400,78 +376,75 @@ fn is_wanted(alloc: Global, path: &Path, to: &str) -> Result<bool, Memory>
     Ok(node_text(alloc, &path.to)?.as_str() == to)
 }
 
-fn push_path<P: Policy>(
-    alloc: Global,
-    text: &mut Vec<u8>,
-    asked: &Question<'_, P>,
-    is_json: bool,
-    path: &Path,
-) -> Result<(), Memory>
-    ensures { OnOk result (text.new.items ≡ text.old.items ++ printed.path_text is_json path.now (printed.steps_of (P.content asked.now.policy.now) asked.now.bindings.now asked.now.known.now (map row_of asked.now.rights.now) path.now)) }
-{
-    let steps = steps(alloc, asked, path)?;
-    if is_json {
-        push_object(alloc, text, path, steps.as_slice())
-    } else {
-        push_lines(alloc, text, path, steps.as_slice())
-    }
-}
-
 fn push_wanted<P: Policy>(
     alloc: Global,
     text: &mut Vec<u8>,
     asked: &Question<'_, P>,
-    is_json: bool,
+    form: Form,
     to: &str,
     path: &Path,
 ) -> Result<(), Memory>
-    ensures { OnOk result (text.new.items ≡ text.old.items ++ printed.wanted_text (P.content asked.now.policy.now) asked.now.bindings.now asked.now.known.now (map row_of asked.now.rights.now) is_json to.now path.now) }
+    ensures { OnOk result (text.new.items ≡ text.old.items ++ printed.wanted_text (P.content asked.now.policy.now) asked.now.bindings.now asked.now.known.now (map row_of asked.now.rights.now) form to.now path.now) }
 {
-    if is_wanted(alloc, path, to)? {
-        push_path(alloc, text, asked, is_json, path)
-    } else {
-        Ok(())
+    if !is_wanted(alloc, path, to)? {
+        return Ok(());
+    }
+    let steps = steps(alloc, asked, path)?;
+    match form {
+        Form::Json => push_object(alloc, text, path, steps.as_slice()),
+        Form::Table | Form::Markdown => push_lines(alloc, text, path, steps.as_slice()),
     }
 }
 
-fn push_unseen(text: &mut Vec<u8>, is_json: bool) -> Result<(), Memory>
-    ensures { OnOk result (text.new.items ≡ text.old.items ++ printed.end is_json) }
+// In Markdown, paths are a block of text.
+fn push_fence(text: &mut Vec<u8>, form: Form) -> Result<(), Memory>
+    ensures { OnOk result (text.new.items ≡ text.old.items ++ printed.fence form) }
 {
-    if is_json {
-        Ok(())
-    } else {
-        text.extend_from_slice(UNSEEN.as_bytes())
+    match form {
+        Form::Markdown => text.extend_from_slice(FENCE.as_bytes()),
+        Form::Json | Form::Table => Ok(()),
+    }
+}
+
+fn push_unseen(text: &mut Vec<u8>, form: Form) -> Result<(), Memory>
+    ensures { OnOk result (text.new.items ≡ text.old.items ++ printed.end form) }
+{
+    match form {
+        Form::Json => Ok(()),
+        Form::Table | Form::Markdown => text.extend_from_slice(UNSEEN.as_bytes()),
     }
 }
 
 fn text_of<P: Policy>(
     alloc: Global,
     asked: &Question<'_, P>,
-    is_json: bool,
+    form: Form,
     to: &str,
     paths: &[Path],
 ) -> Result<Vec<u8>, Memory>
-    ensures { IfOk result (λ v. v.items ≡ printed.printed (P.content asked.now.policy.now) asked.now.bindings.now asked.now.known.now (map row_of asked.now.rights.now) is_json to.now paths.now) }
+    ensures { IfOk result (λ v. v.items ≡ printed.printed (P.content asked.now.policy.now) asked.now.bindings.now asked.now.known.now (map row_of asked.now.rights.now) form to.now paths.now) }
 {
     let mut text = Vec::new(alloc);
+    push_fence(&mut text, form)?;
     for path in paths {
-        push_wanted(alloc, &mut text, asked, is_json, to, path)?;
+        push_wanted(alloc, &mut text, asked, form, to, path)?;
     }
-    push_unseen(&mut text, is_json)?;
+    push_unseen(&mut text, form)?;
+    push_fence(&mut text, form)?;
     Ok(text)
 }
 
 /// Who can become whom, given all bindings of the policy: only paths to that node, as it is printed, unless the name is empty, and
-/// without the rights of some kinds. As text the last line says what was not looked at.
+/// without the rights of some kinds. As text the last line says what was not looked at; in Markdown the text is a block.
 pub fn answer_paths<P: Policy>(
     alloc: Global,
-    is_json: bool,
+    form: Form,
     policy: &P,
     bindings: &[Binding<'_>],
     to: &str,
     without: &[Text],
 ) -> Result<Vec<u8>, Memory>
-    ensures { IfOk result (λ v. IsAnswer (P.content policy.now) (map binding_of bindings.now) (rows_without without.now) is_json to.now v.items) }
+    ensures { IfOk result (λ v. IsAnswer (P.content policy.now) (map binding_of bindings.now) (rows_without without.now) form to.now v.items) }
 {
     let known = known_of(alloc, bindings)?;
     let rights = rights_without(alloc, without)?;
@@ -483,5 +456,5 @@ pub fn answer_paths<P: Policy>(
         rights: rights.as_slice(),
     };
     let paths = paths(alloc, &asked)?;
-    text_of(alloc, &asked, is_json, to, paths.as_slice())
+    text_of(alloc, &asked, form, to, paths.as_slice())
 }

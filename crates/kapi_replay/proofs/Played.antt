@@ -5,7 +5,7 @@ use Rattle.kapi_lines.proofs.Appending.{appends_nothing}
 use Rattle.kapi_replay.specs.Failures.{FailsAs, FailsBy, FailsOn, IsBadLine, IsNotLoaded, differences, event_text, is_reason_of, number_at, script_text}
 use Rattle.kapi_replay.specs.Outcomes.{AreAlike, ArePlayed, IsReplayed, IsReported, checks_in}
 use Rattle.kapi_replay.specs.Playing.{Fails}
-use Rattle.kapi_reasons.specs.Reasons.{is_reason}
+use Rattle.kapi_loading.specs.Reasons.{is_reason}
 use Rattle.kapi_transcripts.specs.declared.failure.Check.{Check}
 use Rattle.kapi_transcripts.specs.declared.failure.Failure.{Failure}
 use Rattle.kapi_transcripts.specs.declared.failure.Outcome.{Outcome}

@@ -31,6 +31,6 @@ is_refused items (Err x) loads files p n more o is h = tt
 
 -- what is loaded of texts
 pub texts_fail : {V E : Type 0} (items : V → List Failure) (r : Result V E) (table : List ResourceRow) (loads : List LoadedFile) (c : Case) (m : Manifests) (p : Prepared) (files : List Loaded) → files ≡ m.files
-    → IsRead loads m p → IfOk r (λ v. FailsBehind table loads c files p p.faults.items (items v)) → IfOk r (λ v. FailsTexts table loads c m (items v))
+    → IsRead table loads m p → IfOk r (λ v. FailsBehind table loads c files p p.faults.items (items v)) → IfOk r (λ v. FailsTexts table loads c m (items v))
 texts_fail items (Ok v) table loads c m p files same read h = (p, read, subst (λ fs. FailsBehind table loads c fs p p.faults.items (items v)) same h)
 texts_fail items (Err x) table loads c m p files same read h = tt

@@ -9,7 +9,7 @@ use Rattle.kapi_lines.specs.Lines.{parts_of}
 use Rattle.kapi_lines.specs.Words.{begins, nth}
 use Rattle.kapi_loading.specs.Loading.{machine_of}
 use Rattle.kapi_model.specs.declared.row.ResourceRow.{ResourceRow}
-use Rattle.kapi_reasons.specs.Reasons.{is_reason}
+use Rattle.kapi_loading.specs.Reasons.{is_reason}
 use Rattle.kapi_transcripts.specs.Reports.{line_at}
 use Rattle.kapi_transcripts.specs.Wants.{is_met}
 use Rattle.kapi_transcripts.specs.declared.case.Case.{Case}

@@ -13,7 +13,7 @@ use Rattle.kapi_manifests.specs.declared.fault.Fault.{Fault}
 use Rattle.kapi_manifests.specs.declared.fault.Origin.{Origin}
 use Rattle.kapi_manifests.specs.declared.prepared.Prepared.{Prepared}
 use Rattle.kapi_manifests.specs.declared.sorted.Scope.TheVariants.{All}
-use Rattle.kapi_reasons.specs.Reasons.{is_shown}
+use Rattle.kapi_loading.specs.Reasons.{is_shown}
 use Rattle.kapi_replay.specs.Failures.{FailsOn}
 use Rattle.kapi_transcripts.specs.Files.{texts_named}
 use Rattle.kapi_transcripts.specs.Reports.{place_text}
@@ -85,14 +85,14 @@ abbrev pub FailsBehind : List ResourceRow → List LoadedFile → Case → List 
 FailsBehind table loads c files p [] failures = FailsAlone loads c files p (machine_alone table 0 p.text.items) failures
 FailsBehind table loads c files p (f ∷ fs) failures = IsFaultAt loads files f.origin (length fs) failures
 
--- what is loaded of the files, and how many faults they have
-pub record IsRead (loads : List LoadedFile) (m : Manifests) (p : Prepared) : Type 0 where
-  pub loaded : Loads All [] m.defaults (all_texts loads m.files) p
-  pub faults : length p.faults.items ≡ faults_in_all All [] (all_texts loads m.files)
+-- what is loaded of the files by a table of resource types, and how many faults they have
+pub record IsRead (table : List ResourceRow) (loads : List LoadedFile) (m : Manifests) (p : Prepared) : Type 0 where
+  pub loaded : Loads table All [] m.defaults (all_texts loads m.files) p
+  pub faults : length p.faults.items ≡ faults_in_all table All [] (all_texts loads m.files)
 
 -- the failures of a case that begins with what is loaded of the files
 abbrev pub FailsTexts : List ResourceRow → List LoadedFile → Case → Manifests → List Failure → Type 0
-FailsTexts table loads c m failures = (p : Prepared) × IsRead loads m p × FailsBehind table loads c m.files p p.faults.items failures
+FailsTexts table loads c m failures = (p : Prepared) × IsRead table loads m p × FailsBehind table loads c m.files p p.faults.items failures
 
 -- the failures of a case that begins with manifests, by their first missing file, if there is one
 abbrev pub FailsWithout : List ResourceRow → List LoadedFile → Case → Manifests → Option Loaded → List Failure → Type 0

@@ -70,7 +70,7 @@ fn begun<R: Wait>(
             None => Ok(None),
         },
         Beginning::Manifests(manifests) => {
-            let prepared = read_manifests(alloc, loads, manifests)?;
+            let prepared = read_manifests(alloc, table, loads, manifests)?;
             let text = prepared.text.as_slice();
             made(start_without_objects(alloc, rt, table, text, 0, 1))
         }

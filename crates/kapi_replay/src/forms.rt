@@ -1,8 +1,4 @@
 //! Why a line of a transcript has no known form.
-ghost use Rattle.std.specs.Prelude.{◌≡◌, true, IfOk, IfSome};
-ghost use Rattle.kapi_reasons.specs.Reasons.{is_reason};
-
-use kapi_reasons::{event_reason, names_reason};
 use kapi_text::Memory;
 use kapi_transcripts::{Form, parse_form};
 use std::alloc::Global;
@@ -11,12 +7,14 @@ use std::alloc::Global;
 const FORMS: &str =
     "no line begins so; there are load, manifests, kinds, recheck, begin, as, GET, POST, PUT, PATCH, DELETE, pump, =, ==, ~, >, and the events open, feed, serve, pump, turn and close";
 
-/// Why a line of a transcript has no known form, where it stands in its case.
-pub fn form_reason(alloc: Global, line: &[u8]) -> Result<&'static str, Memory>
-    ensures { IfOk result (λ reason. is_reason reason.now ≡ true) }
-{
+/// Why a line of a transcript has no known form, where it stands in its case; it is no event of a script for this
+/// reason.
+pub fn form_reason(
+    alloc: Global,
+    line: &[u8],
+    reason: &'static str,
+) -> Result<&'static str, Memory> {
     match parse_form(alloc, line)? {
-        Form::Actor(names) => Ok(actor_reason(names.as_slice())),
         Form::Request(_request) => Ok(
             "nobody asks: 'as USER' or 'as USER,GROUP,..' comes before the first request of a case",
         ),
@@ -28,60 +26,29 @@ pub fn form_reason(alloc: Global, line: &[u8]) -> Result<&'static str, Memory>
         ),
         Form::Recheck => Ok("recheck comes before the first event of a case"),
         Form::Kinds(_name) => Ok("kinds comes before the first event of a case"),
-        Form::Event => Ok(word_reason(line)),
-        Form::Begin | Form::Load(_) | Form::Want(_) => Ok(FORMS),
-    }
-}
-
-/// What is wrong with the names of an actor.
-fn actor_reason(names: &[u8]) -> &'static str
-    ensures { is_reason result.now ≡ true }
-{
-    match names_reason(names) {
-        Some(reason) => reason,
-        None => FORMS,
+        Form::Event => Ok(event_reason(line, reason)),
+        Form::Actor(_) | Form::Begin | Form::Load(_) | Form::Want(_) => Ok(FORMS),
     }
 }
 
 /// Why a line that begins with no word of a transcript is no event of a script either.
-fn word_reason(line: &[u8]) -> &'static str
-    ensures { is_reason result.now ≡ true }
-{
+fn event_reason(line: &[u8], reason: &'static str) -> &'static str {
     if line.ends_with(b"\r") {
         return "the line ends with CR LF; a line of a transcript ends with LF alone";
     }
-    match sign_reason(line) {
-        Some(reason) => reason,
-        None => script_reason(line),
-    }
-}
-
-/// What is wanted behind the sign or word that a line begins with, if it is one.
-fn sign_reason(line: &[u8]) -> Option<&'static str>
-    ensures { IfSome result (λ r. is_reason r.now ≡ true) }
-{
     match line {
         [b'=', b'=', ..] | [b'~', ..] | [b'>', ..] => {
-            Some("a space and a text are wanted behind the sign: == BODY, ~ TEXT or > LINE")
+            "a space and a text are wanted behind the sign: == BODY, ~ TEXT or > LINE"
         }
-        [b'=', ..] => Some("a code of three digits is wanted: = CODE or = CODE TEXT"),
+        [b'=', ..] => "a code of three digits is wanted: = CODE or = CODE TEXT",
         b"GET" | b"POST" | b"PUT" | b"PATCH" | b"DELETE" => {
-            Some("a target is wanted: METHOD TARGET or METHOD TARGET BODY")
+            "a target is wanted: METHOD TARGET or METHOD TARGET BODY"
         }
-        b"as" => Some("an identity is wanted: as USER or as USER,GROUP,.."),
-        b"load" => Some("a file is wanted: load FILE"),
-        b"manifests" => Some("a file or folder is wanted: manifests FILE"),
-        b"kinds" => Some("a file or folder is wanted: kinds FILE"),
-        _ => None,
-    }
-}
-
-/// Why a line that begins with no sign or word of a transcript is no event.
-fn script_reason(line: &[u8]) -> &'static str
-    ensures { is_reason result.now ≡ true }
-{
-    match event_reason(line) {
-        Some(reason) if is_begun_event(line) => reason,
+        b"as" => "an identity is wanted: as USER or as USER,GROUP,..",
+        b"load" => "a file is wanted: load FILE",
+        b"manifests" => "a file or folder is wanted: manifests FILE",
+        b"kinds" => "a file or folder is wanted: kinds FILE",
+        _ if is_begun_event(line) => reason,
         _ => FORMS,
     }
 }

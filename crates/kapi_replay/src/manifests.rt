@@ -1,18 +1,18 @@
 //! A case that begins with manifests.
 ghost use Rattle.std.specs.Prelude.{◌≡◌, ◌++◌, ◌==◌, true, IfOk, OnOk, length, map, option_map};
-ghost use Rattle.std.specs.List.{find, list_all};
+ghost use Rattle.std.specs.List.{find};
 ghost use Rattle.kapi_core.specs.Table.{fits};
 ghost use Rattle.kapi_loading.specs.Loading.{machine_alone};
-ghost use Rattle.kapi_reasons.specs.Reasons.{is_shown};
 ghost use Rattle.kapi_replay.specs.Manifests as manifests;
 ghost use Rattle.kapi_replay.specs.Manifests.{FailsAlone, FailsBehind, FailsManifests, FailsTexts, IsFaultAt, IsRead, IsRefused};
 
 use crate::play::{only, play_on};
 use kapi_lines::nth;
-use kapi_loading::{StartError, Started, start_without_objects};
+use kapi_loading::{
+    LineReason, StartError, Started, line_reasons, one_line, start_without_objects,
+};
 use kapi_manifests::{Fault, Options, Origin, Prepared, Scope, prepare};
 use kapi_model::ResourceRow;
-use kapi_reasons::{LineReason, line_reasons};
 use kapi_text::{Memory, Sequence};
 use kapi_transcripts::{Case, Failure, Loaded, LoadedFile, Manifests, push_number, texts_named};
 use std::alloc::{AllocError, Global};
@@ -143,23 +143,6 @@ fn fault_at(
     }
 }
 
-/// A text on one line: a control character is a `?`.
-fn on_one_line(alloc: Global, text: &[u8]) -> Result<Vec<u8>, Memory>
-    ensures { IfOk result (λ v. list_all is_shown v.items ≡ true) }
-{
-    let mut line = Vec::new(alloc);
-    for byte in text {
-        line.push(shown(*byte))?;
-    }
-    Ok(line)
-}
-
-fn shown(byte: u8) -> u8
-    ensures { is_shown result ≡ true }
-{
-    if byte < 32 || byte == 127 { b'?' } else { byte }
-}
-
 /// The one failure of manifests with a fault at this origin, for this reason, and `more` further faults.
 pub fn fault_failure(
     alloc: Global,
@@ -171,8 +154,8 @@ pub fn fault_failure(
 ) -> Result<Vec<Failure>, Memory>
     ensures { IfOk result (λ v. IsFaultAt loads.now files.now origin more v.items) }
 {
-    let reason = on_one_line(alloc, reason.as_bytes())?;
-    let failure = fault_at(alloc, loads, files, origin, reason.as_slice(), more)?;
+    let reason = one_line(alloc, reason)?;
+    let failure = fault_at(alloc, loads, files, origin, reason.as_bytes(), more)?;
     only(alloc, failure)
 }
 
@@ -279,14 +262,16 @@ fn play_prepared<R: Wait>(
 /// Reads the files of manifests as one policy, with the default roles if the case has them.
 pub fn read_manifests(
     alloc: Global,
+    table: &Sequence<ResourceRow>,
     loads: &[LoadedFile],
     manifests: &Manifests,
 ) -> Result<Prepared, Memory>
-    ensures { IfOk result (λ p. IsRead loads.now manifests.now p) }
+    ensures { IfOk result (λ p. IsRead table.now loads.now manifests.now p) }
 {
     let texts = all_texts(alloc, loads, manifests.files.as_slice())?;
     let options = Options {
         scope: Scope::All,
+        kinds: table.as_slice(),
         namespace: "",
         defaults: manifests.defaults,
         words: false,
@@ -307,7 +292,7 @@ fn play_texts<R: Wait>(
     requires { fits table.now ≡ true }
     ensures { IfOk result (λ v. FailsTexts table.now loads.now case.now manifests.now v.items) }
 {
-    let prepared = read_manifests(alloc, loads, manifests)?;
+    let prepared = read_manifests(alloc, table, loads, manifests)?;
     play_prepared(
         alloc,
         rt,

@@ -14,9 +14,8 @@ use crate::forms::form_reason;
 use kapi_core::Core;
 use kapi_index::IndexedPolicy;
 use kapi_lines::{copy_of, nth, split_lines};
-use kapi_loading::{StartError, Started, start};
+use kapi_loading::{StartError, Started, object_reason, one_line, start};
 use kapi_model::ResourceRow;
-use kapi_reasons::object_reason;
 use kapi_script::{ScriptFault, play_script};
 use kapi_text::{Memory, Sequence, Text, TryCopy};
 use kapi_transcripts::{Case, Difference, Failure, Loaded, ScriptLine, Want, is_met};
@@ -127,34 +126,32 @@ fn event_text(script: &[ScriptLine], number: usize) -> &[u8]
 /// Why a line of a script that names an identity has no known form.
 const NAMES_REASON: &str = "a user or group is empty, or begins or ends with white space";
 
-/// Why a line of a script has no known form.
-fn line_reason(alloc: Global, line: &[u8]) -> Result<&'static str, Memory>
-    ensures { IfOk result (λ reason. fails.is_reason_of line.now reason.now ≡ true) }
+/// Why a line of a script, which is no event for this reason, has no known form.
+fn line_reason(alloc: Global, line: &[u8], reason: &'static str) -> Result<Text, Memory>
+    ensures { IfOk result (λ reason. fails.is_reason_of line.now reason ≡ true) }
 {
     if line.starts_with(b"as ") {
-        return Ok(NAMES_REASON);
+        return Text::copy_of(alloc, NAMES_REASON);
     }
-    form_reason(alloc, line)
+    let reason = form_reason(alloc, line, reason)?;
+    Ok(Text::new(one_line(alloc, reason)?))
 }
 
-/// The failure of a case whose script has a line of no known form, of this number.
-fn bad_line(alloc: Global, case: &Case, number: u64) -> Result<Vec<Failure>, Memory>
+/// The failure of a case whose script has a line of no known form, of this number, which is no event for this reason.
+fn bad_line(
+    alloc: Global,
+    case: &Case,
+    number: u64,
+    reason: &'static str,
+) -> Result<Vec<Failure>, Memory>
     ensures { IfOk result (λ v. fails.IsBadLine case.now number v.items) }
 {
     let Ok(number) = usize::try_from(number) else {
         return Err(AllocError);
     };
     let script = case.script.as_slice();
-    let reason = line_reason(alloc, event_text(script, number))?;
-    no_form(alloc, number_at(script, number), reason)
-}
-
-/// The failure of a line of no known form, for this reason.
-fn no_form(alloc: Global, number: usize, reason: &str) -> Result<Vec<Failure>, Memory>
-    ensures { IfOk result (λ v. v.items ≡ failure.NoForm number reason.now ∷ []) }
-{
-    let reason = Text::copy_of(alloc, reason)?;
-    only(alloc, Failure::NoForm(number, reason))
+    let reason = line_reason(alloc, event_text(script, number), reason)?;
+    only(alloc, Failure::NoForm(number_at(script, number), reason))
 }
 
 /// The failure of a case whose file of objects is not loaded, since the line of this number is at fault.
@@ -170,21 +167,12 @@ fn not_loaded(
     ensures { IfOk result (λ v. fails.IsNotLoaded load.now line v.items) }
 {
     match object_reason(alloc, table, 0, objects)? {
-        Some(reason) => not_loaded_for(alloc, load.number, line, reason),
+        Some(reason) => {
+            let reason = Text::new(reason);
+            only(alloc, Failure::NotLoaded(load.number, line, reason))
+        }
         None => unreachable!(),
     }
-}
-
-/// The failure of a line of the transcript whose file is not loaded: the line of the file at fault, and the reason.
-fn not_loaded_for(
-    alloc: Global,
-    number: usize,
-    line: usize,
-    reason: String,
-) -> Result<Vec<Failure>, Memory>
-    ensures { IfOk result (λ v. v.items ≡ failure.NotLoaded number line (string_bytes reason) ∷ []) }
-{
-    only(alloc, Failure::NotLoaded(number, line, Text::new(reason)))
 }
 
 /// Plays a case on a machine on which no connection was opened, and compares its answers with the wanted ones.
@@ -202,7 +190,7 @@ pub fn play_on(
     let mut answers = Vec::new(alloc);
     match play_script(alloc, core, &mut reader, &mut answers) {
         Ok(()) => differences(alloc, case, answers.as_slice()),
-        Err(ScriptFault::BadLine(number)) => bad_line(alloc, case, number),
+        Err(ScriptFault::BadLine(number, reason)) => bad_line(alloc, case, number, reason),
         Err(_other) => Err(AllocError),
     }
 }

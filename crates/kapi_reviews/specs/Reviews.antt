@@ -43,7 +43,10 @@ spec_answer objects caller kind namespace spec =
     if asks_rules kind then rules_answer objects caller kind namespace (text_at (codes "namespace") spec)
     else access_answer objects kind namespace (question kind namespace caller spec)
 
+-- what is read of a review that has no fault, or all its faults
+abbrev pub unless_faulty : {X : Type 0} → ReviewKind → Data → X → Result X (List FieldFault)
+unless_faulty kind tree read = if length (review_faults kind tree) == 0 then Ok read else Err (review_faults kind tree)
+
 -- the answer to a review, or all its faults
 unfoldable pub reviewed : PolicyObjects → Identity → ReviewKind → Data → Result Data (List FieldFault)
-reviewed objects caller kind tree =
-    if length (review_faults kind tree) == 0 then Ok (spec_answer objects caller kind (namespace_of tree) (at (codes "spec") tree)) else Err (review_faults kind tree)
+reviewed objects caller kind tree = unless_faulty kind tree (spec_answer objects caller kind (namespace_of tree) (at (codes "spec") tree))

@@ -14,7 +14,7 @@ mod reviewed;
 mod rules;
 
 pub use kind::ReviewKind;
-pub use question::{Question, read_question};
+pub use question::Question;
 pub use reasons::reason;
 pub use review_error::ReviewError;
-pub use reviewed::review;
+pub use reviewed::{read_review, review};

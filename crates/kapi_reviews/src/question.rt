@@ -88,7 +88,7 @@ fn asked_url_point(alloc: Global, spec: &Value) -> Result<Point, Memory>
 
 /// The question of a review's `spec`.
 #[tactic(auto, unfolding(crate::specs::Questions::question))]
-pub fn read_question(
+pub(crate) fn read_question(
     alloc: Global,
     kind: ReviewKind,
     namespace: &str,

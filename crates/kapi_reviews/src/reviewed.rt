@@ -6,13 +6,14 @@ ghost use Rattle.kapi_object.specs.Object.{tree_of};
 ghost use Rattle.kapi_policy.specs.Decided.{decided};
 ghost use Rattle.kapi_policy.specs.Objects.{PolicyObjects};
 ghost use Rattle.kapi_rules.specs.declared.point.Point.{Point};
+ghost use Rattle.kapi_rules.specs.Points.{HasPlainResource};
 ghost use Rattle.kapi_reviews.specs.Reviews as answers;
-ghost use Rattle.kapi_reviews.specs.Reviews.{reviewed, told};
+ghost use Rattle.kapi_reviews.specs.Reviews.{reviewed, told, unless_faulty};
 
 use crate::answer::{decision_tree, question_tree, review_tree};
 use crate::faults::{collect_review_faults, namespace_of};
 use crate::kind::ReviewKind;
-use crate::question::read_question;
+use crate::question::{Question, read_question};
 use crate::review_error::ReviewError;
 use crate::rules::rules_tree;
 use kapi_model::Identity;
@@ -67,6 +68,36 @@ fn answer<P: Policy>(
     review_tree(alloc, kind, namespace, asked, status)
 }
 
+/// Checks a review. An error has the whole list of its faults in order.
+fn check(alloc: Global, kind: ReviewKind, tree: &Value) -> Result<(), ReviewError>
+    ensures { Gives told (λ u. u) result (unless_faulty kind (view tree.now) tt) }
+{
+    let faults = collect_review_faults(alloc, kind, tree)?;
+    if faults.is_empty() {
+        Ok(())
+    } else {
+        Err(ReviewError::Invalid(Sequence::new(faults)))
+    }
+}
+
+/// What a review of access that `caller` makes asks, or the whole list of its faults in order.
+pub fn read_review(
+    alloc: Global,
+    caller: &Identity,
+    kind: ReviewKind,
+    tree: &Value,
+) -> Result<Question, ReviewError>
+    ensures question { Gives told (λ q. q) result (unless_faulty kind (view tree.now) (answers.asked kind caller.now (view tree.now))) }
+
+    // the resource that is asked about never has a slash
+    ensures plain { IfOk result (λ q. HasPlainResource q.point) }
+{
+    check(alloc, kind, tree)?;
+    let nothing = Value::Null;
+    let spec = member(tree, "spec").unwrap_or(&nothing);
+    Ok(read_question(alloc, kind, namespace_of(tree), caller, spec)?)
+}
+
 /// The answer to a review that `caller` makes, or the whole list of its faults in order. A local review is in the
 /// namespace that its metadata names. The answer is an object of its own: `spec` has what was understood of the review,
 /// and `status` the answer; all else of the review is left out. Nothing is changed.
@@ -80,10 +111,7 @@ pub fn review<P: Policy>(
 ) -> Result<Object, ReviewError>
     ensures { Gives told tree_of result (reviewed (P.content policy.now) caller.now kind (view tree.now)) }
 {
-    let faults = collect_review_faults(alloc, kind, tree)?;
-    if !faults.is_empty() {
-        return Err(ReviewError::Invalid(Sequence::new(faults)));
-    }
+    check(alloc, kind, tree)?;
     let nothing = Value::Null;
     let spec = member(tree, "spec").unwrap_or(&nothing);
     let answered = answer(alloc, policy, caller, kind, namespace_of(tree), spec)?;

@@ -35,7 +35,7 @@ byte_pushed all byte unread before core s t c (Ok done) other lines_are pushed _
     let whole = All-append (λ b. (b == 10) ≡ false) s.line.items (byte ∷ []) h.0 (All-cons (λ b. (b == 10) ≡ false) byte [] other (All-nil (λ b. (b == 10) ≡ false))) in
     let there = subst (λ ls. ReachedBy all (lines ls) s.lines core before c) (sym (append_assoc s.line.items (byte ∷ []) unread)) h.1 in
     subst (λ n. P t.line.items n) (sym lines_are) (subst (λ items. P items s.lines) (sym pushed) (whole, there))
-byte_pushed all byte unread before core s t c (Err (fault.BadLine number)) other lines_are pushed is h = absurd (cc is)
+byte_pushed all byte unread before core s t c (Err (fault.BadLine number reason)) other lines_are pushed is h = absurd (cc is)
 byte_pushed all byte unread before core s t c (Err fault.Read) other lines_are pushed is h = tt
 byte_pushed all byte unread before core s t c (Err fault.Write) other lines_are pushed is h = tt
 byte_pushed all byte unread before core s t c (Err fault.Memory) other lines_are pushed is h = tt
@@ -43,7 +43,7 @@ byte_pushed all byte unread before core s t c (Err fault.Memory) other lines_are
 -- what ended a line ends the script
 pub line_failed : (all : Play) (rest : List (List ℕ)) (unread before : List ℕ) (n : ℕ) (core : Running) (s : Script) (d : Option (List ℕ)) (result : Result (Unit {0}) ScriptFault) (e : ScriptFault)
     → result ≡ Err e → IsPlayedOn all rest n core before d result → ReadsOn all unread core s before d (Err e)
-line_failed all rest unread before n core s d result (fault.BadLine number) is h = subst (λ r. IsPlayedOn all rest n core before d r) is h
+line_failed all rest unread before n core s d result (fault.BadLine number reason) is h = subst (λ r. IsPlayedOn all rest n core before d r) is h
 line_failed all rest unread before n core s d result fault.Read is h = tt
 line_failed all rest unread before n core s d result fault.Write is h = tt
 line_failed all rest unread before n core s d result fault.Memory is h = tt
@@ -62,7 +62,7 @@ unfolding said first_bad_from
 ended all before n core d (Ok done) h =
     let s = h.1.said_so_far [] in
     (s.0, h.2 ∙ ap (λ t. Some (before ++ t)) (sym (s.1 ∙ append-nil h.0)), h.1.none_bad)
-ended all before n core d (Err (fault.BadLine number)) h = h
+ended all before n core d (Err (fault.BadLine number reason)) h = h
 ended all before n core d (Err fault.Read) h = tt
 ended all before n core d (Err fault.Write) h = tt
 ended all before n core d (Err fault.Memory) h = tt
@@ -81,7 +81,7 @@ bytes_end all bytes unread before i core s c over h = subst (λ xs. Reading all 
 -- what ended the script does not depend on what was not read
 pub reads_failed : (all : Play) (unread other before : List ℕ) (core later : Running) (s t : Script) (d : Option (List ℕ)) (e : ScriptFault)
     → ReadsOn all unread core s before d (Err e) → ReadsOn all other later t before d (Err e)
-reads_failed all unread other before core later s t d (fault.BadLine number) h = h
+reads_failed all unread other before core later s t d (fault.BadLine number reason) h = h
 reads_failed all unread other before core later s t d fault.Read h = tt
 reads_failed all unread other before core later s t d fault.Write h = tt
 reads_failed all unread other before core later s t d fault.Memory h = tt
@@ -114,7 +114,7 @@ on_ok (Err e) P p = tt
 -- what ended the reading ends the script
 pub ends_failed : (all : Play) (unread before : List ℕ) (core : Running) (s : Script) (d : Option (List ℕ)) (e : ScriptFault)
     → ReadsOn all unread core s before d (Err e) → Ends all before d (Err e)
-ends_failed all unread before core s d (fault.BadLine number) h = h
+ends_failed all unread before core s d (fault.BadLine number reason) h = h
 ends_failed all unread before core s d fault.Read h = tt
 ends_failed all unread before core s d fault.Write h = tt
 ends_failed all unread before core s d fault.Memory h = tt

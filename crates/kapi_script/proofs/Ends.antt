@@ -11,7 +11,7 @@ pub played_to_end : (m : Machine) (text before : List ℕ) (contents : Option (L
 played_to_end m text before contents (Ok done) h = h
 played_to_end m text before contents (Err e) h = tt
 
-pub stopped_at : (m : Machine) (text before : List ℕ) (contents : Option (List ℕ)) (number : ℕ) (result : Result (Unit {0}) ScriptFault)
-    → Ends (record { begun = m; lines = lines text }) before contents result → result ≡ Err (fault.BadLine number)
+pub stopped_at : (m : Machine) (text before : List ℕ) (contents : Option (List ℕ)) (number : ℕ) (reason : _) (result : Result (Unit {0}) ScriptFault)
+    → Ends (record { begun = m; lines = lines text }) before contents result → result ≡ Err (fault.BadLine number reason)
     → IsAnsweredBy m text before contents (Some number)
-stopped_at m text before contents number result h e = rw e at h
+stopped_at m text before contents number reason result h e = rw e at h

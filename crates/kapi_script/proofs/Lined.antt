@@ -1,12 +1,12 @@
 -- One line more of a script.
-use Rattle.std.proofs.Common.{◌≡◌, ℕ, ◌+◌, Bool, true, false, List, [], ◌∷◌, ◌++◌, Option, Some, None, Result, Ok, Err, OnOk, IfErr, refl, sym, ap, ◌∙◌, subst, append_assoc, append-nil}
+use Rattle.std.proofs.Common.{◌≡◌, ℕ, ◌+◌, Bool, true, false, List, [], ◌∷◌, ◌++◌, Option, Some, None, Result, Ok, Err, OnOk, IfErr, refl, sym, ap, ◌∙◌, subst, append_assoc, append-nil, Bor}
 use Rattle.std.specs.Io.KnownBytes.{Appends}
 use Rattle.kapi_core.specs.Machine.{Machine}
 use Rattle.kapi_core.specs.Refines.{Refines}
 use Rattle.kapi_core.specs.Running.{Running}
 use Rattle.kapi_script.specs.AnswerLines.{answer_line, refused_line}
-use Rattle.kapi_script.specs.Scripts.{line_of, is_bad, written_for, after_line, said, first_bad_from}
-use Rattle.kapi_script.specs.Private.Playing.{Play, Plays, played_text, is_bad_play, Reached, ReachedBy, Stopped, IsPlayedOn}
+use Rattle.kapi_script.specs.Scripts.{bad, line_of, is_bad, written_for, after_line, said, first_bad_from}
+use Rattle.kapi_script.specs.Private.Playing.{Play, Plays, played_text, Reached, ReachedBy, Stopped, IsPlayedOn}
 use Rattle.kapi_script.specs.declared.script.Played.{Played}
 use Rattle.kapi_script.specs.declared.script.Played.TheVariants as played
 use Rattle.kapi_script.specs.declared.script.ScriptFault.{ScriptFault}
@@ -62,12 +62,16 @@ reached_by : (all : Play) (rest : List (List ℕ)) (n : ℕ) (old new : Running)
 reached_by all rest n old new line before text r c d good wrote h e stands =
     (h.0 ++ text, reached_more all rest n old new line h.0 text r h.1 good e stands, held before h.0 text c d h.2 wrote)
 
+-- the line was not bad
+abbrev IsGood : Played → Type 0
+IsGood p = (reason : Bor (List ℕ)) → p ≡ played.Bad reason → ⊥
+
 -- one line more, that is not bad
-more : (all : Play) (rest : List (List ℕ)) (n : ℕ) (old new : Running) (line before : List ℕ) (p : Played) (c d : Option (List ℕ)) → Plays old new line p → is_bad_play p ≡ false
+more : (all : Play) (rest : List (List ℕ)) (n : ℕ) (old new : Running) (line before : List ℕ) (p : Played) (c d : Option (List ℕ)) → Plays old new line p → IsGood p
     → Appends c d (played_text p) → ReachedBy all (line ∷ rest) n old before c → ReachedBy all rest (n + 1) new before d
 more all rest n old new line before played.Skipped c d plays good wrote h =
     reached_by all rest n old new line before [] false c d (rw plays.0 refl) wrote h (rw plays.0 refl) (rw plays.0 (plays.1 h.1.machine h.1.stands))
-more all rest n old new line before played.Bad c d plays good wrote h = absurd (cc good)
+more all rest n old new line before (played.Bad reason) c d plays good wrote h = absurd (good reason refl)
 more all rest n old new line before played.Refused c d plays good wrote h =
     reached_by all rest n old new line before refused_line true c d (rw plays.1 refl) wrote h (rw plays.1 refl) (rw plays.1 (plays.2 h.1.machine h.1.stands))
 more all rest n old new line before (played.Answered answer) c d plays good wrote h =
@@ -76,24 +80,19 @@ more all rest n old new line before (played.Answered answer) c d plays good wrot
 
 -- a line was played, and its answer written or not
 pub gone : (all : Play) (rest : List (List ℕ)) (n : ℕ) (old new : Running) (line before : List ℕ) (p : Played) (c d : Option (List ℕ)) (result : Result (Unit {0}) ScriptFault)
-    → Plays old new line p → is_bad_play p ≡ false → OnOk result (Appends c d (played_text p)) → IfErr result (λ e. e ≡ fault.Write)
+    → Plays old new line p → IsGood p → OnOk result (Appends c d (played_text p)) → IfErr result (λ e. e ≡ fault.Write)
     → ReachedBy all (line ∷ rest) n old before c → IsPlayedOn all rest (n + 1) new before d result
 gone all rest n old new line before p c d (Ok done) plays good wrote failed h = more all rest n old new line before p c d plays good wrote h
 gone all rest n old new line before p c d (Err e) plays good wrote failed h = subst (λ e. IsPlayedOn all rest (n + 1) new before d (Err e)) (sym failed) tt
 
-is_bad_line : (old new : Running) (line : List ℕ) (p : Played) → Plays old new line p → is_bad_play p ≡ true → is_bad (line_of line) ≡ true
-is_bad_line old new line played.Skipped plays b = absurd (cc b)
-is_bad_line old new line played.Bad plays b = rw plays refl
-is_bad_line old new line played.Refused plays b = absurd (cc b)
-is_bad_line old new line (played.Answered answer) plays b = absurd (cc b)
-
 -- a bad line ends the script
-pub stopped : (all : Play) (rest : List (List ℕ)) (n : ℕ) (old new : Running) (line before : List ℕ) (p : Played) (c : Option (List ℕ))
-    → Plays old new line p → is_bad_play p ≡ true → ReachedBy all (line ∷ rest) n old before c → Stopped all (n + 1) before c
-stopped all rest n old new line before p c plays b h =
-    let bad = is_bad_line old new line p plays b in
+pub stopped : (all : Play) (rest : List (List ℕ)) (n : ℕ) (old new : Running) (line before : List ℕ) (p : Played) (reason : Bor (List ℕ)) (c : Option (List ℕ))
+    → Plays old new line p → p ≡ played.Bad reason → ReachedBy all (line ∷ rest) n old before c → Stopped all (n + 1) before c
+stopped all rest n old new line before p reason c plays is h =
+    let known : line_of line ≡ bad = subst (Plays old new line) is plays in
+    let is_so : is_bad (line_of line) ≡ true = rw known refl in
     let s = h.1.said_so_far [] in (
       s.0,
-      h.2 ∙ ap (λ t. Some (before ++ t)) (sym (s.1 ∙ ap (λ t. h.0 ++ t) (said_bad h.1.machine line rest [] bad) ∙ append-nil h.0)),
-      h.1.none_bad ∙ bad_first (n + 1) line rest bad,
+      h.2 ∙ ap (λ t. Some (before ++ t)) (sym (s.1 ∙ ap (λ t. h.0 ++ t) (said_bad h.1.machine line rest [] is_so) ∙ append-nil h.0)),
+      h.1.none_bad ∙ bad_first (n + 1) line rest is_so,
     )

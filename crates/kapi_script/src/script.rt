@@ -4,14 +4,14 @@ ghost use Rattle.std.specs.Io.KnownBytes.{Appends, Consumes, IsAtEnd};
 ghost use Rattle.kapi_core.specs.Machine.{Machine};
 ghost use Rattle.kapi_core.specs.Refines.{Refines};
 ghost use Rattle.kapi_core.specs.Table.{fits};
-ghost use Rattle.kapi_script.specs.Private.Playing.{is_bad_play, Ends, IsPlayedOn, Play, Plays, ReachedBy, Reading, ReadsOn, played_text};
+ghost use Rattle.kapi_script.specs.Private.Playing.{Ends, IsPlayedOn, Play, Plays, ReachedBy, Reading, ReadsOn, played_text};
 ghost use Rattle.kapi_policy.specs.Objects.{no_objects};
 ghost use Rattle.kapi_script.specs.Gains.{NobodyGainsFrom};
 ghost use Rattle.kapi_script.specs.Scripts.{IsAnswered, IsAnsweredBy};
 ghost use Rattle.std.specs.Fmt.{decimal};
 ghost use Rattle.kapi_script.specs.AnswerLines.{answer_line, output_line, turn_line};
 
-use crate::line::parse_line;
+use crate::line::{LineError, parse_line};
 use kapi_core::{Answer, ConnId, Core, Output, Turned};
 use kapi_lines::write_escaped;
 use kapi_model::ResourceRow;
@@ -30,9 +30,9 @@ const READS: u64 = 4_294_967_296;
 /// Why a script was not played to its end. The answers before the fault are written.
 #[derive(Clone, Copy, Debug, PartialEq, Eq, Error)]
 pub enum ScriptFault {
-    /// A line of no known form; the first line is 1.
-    #[error("bad line {0}")]
-    BadLine(u64),
+    /// A line of no known form, and why; the first line is 1.
+    #[error("bad line {0}\n  {1}")]
+    BadLine(u64, &'static str),
     #[error("the script cannot be read")]
     Read,
     #[error("the answers cannot be written")]
@@ -64,8 +64,8 @@ struct Script {
 pub enum Played {
     /// The line is empty or a comment.
     Skipped,
-    /// The line has no known form.
-    Bad,
+    /// The line has no known form, for this reason.
+    Bad(&'static str),
     /// An allocation failed, and nothing was changed.
     Refused,
     Answered(Answer),
@@ -80,19 +80,13 @@ fn play<P: Policy + Drop>(alloc: Global, core: &mut Core<P>, line: &[u8]) -> Pla
         return Played::Skipped;
     }
     match parse_line(alloc, line) {
-        Ok(Some(event)) => match core.step(&event) {
+        Ok(event) => match core.step(&event) {
             Ok(answer) => Played::Answered(answer),
             Err(_) => Played::Refused,
         },
-        Ok(None) => Played::Bad,
-        Err(_) => Played::Refused,
+        Err(LineError::NoEvent(reason)) => Played::Bad(reason),
+        Err(LineError::Memory) => Played::Refused,
     }
-}
-
-fn is_bad(played: &Played) -> bool
-    ensures { result ≡ is_bad_play played.now }
-{
-    matches!(played, Played::Bad)
 }
 
 /// Writes the line that answers a line, if it has one, and flushes the writer.
@@ -111,7 +105,7 @@ fn write_text<W: Write>(writer: &mut W, played: &Played) -> io::Result<()>
     ensures { OnOk result (Appends (W.contents writer.old) (W.contents writer.new) (played_text played.now)) }
 {
     match played {
-        Played::Skipped | Played::Bad => Ok(()),
+        Played::Skipped | Played::Bad(_) => Ok(()),
         Played::Refused => writer.write_all(b"error Memory\n"),
         Played::Answered(answer) => write_answer(writer, answer),
     }
@@ -130,8 +124,8 @@ fn play_line<P: Policy + Drop, W: Write>(
         → IsPlayedOn all rest (lines + 1) core.new before (W.contents writer.new) result }
 {
     let played = play(alloc, core, line);
-    if is_bad(&played) {
-        return Err(ScriptFault::BadLine(lines + 1));
+    if let Played::Bad(reason) = &played {
+        return Err(ScriptFault::BadLine(lines + 1, *reason));
     }
     write_played(writer, &played)
 }
@@ -216,7 +210,7 @@ fn end_script<P: Policy + Drop, W: Write>(
 /// unprivileged.
 ///
 /// # Errors
-/// `BadLine` at the first line of no known form; `Read` where the reader fails or returns 2^32 pieces or more;
+/// `BadLine` at the first line of no known form, with the reason; `Read` where the reader fails or returns 2^32 pieces or more;
 /// `Write` if the writer fails; `Memory` if an allocation fails outside an event.
 pub fn script_run<P: Policy + Drop, R: Read, W: Write>(
     alloc: Global,
@@ -229,8 +223,8 @@ pub fn script_run<P: Policy + Drop, R: Read, W: Write>(
     requires empty { P.content policy ≡ no_objects }
     ensures played { (text before : List ℕ) → R.remaining reader.old ≡ Some text → W.contents writer.old ≡ Some before
         → OnOk result (IsAnswered table text before (W.contents writer.new) None) }
-    ensures bad { (text before : List ℕ) (number : ℕ) → R.remaining reader.old ≡ Some text → W.contents writer.old ≡ Some before
-        → result ≡ Err (Fault.BadLine number) → IsAnswered table text before (W.contents writer.new) (Some number) }
+    ensures bad { (text before : List ℕ) (number : ℕ) (reason : _) → R.remaining reader.old ≡ Some text → W.contents writer.old ≡ Some before
+        → result ≡ Err (Fault.BadLine number reason) → IsAnswered table text before (W.contents writer.new) (Some number) }
     ensures whole { OnOk result (IsAtEnd (R.remaining reader.new)) }
     ensures gains { (text : List ℕ) (refused : List Bool) (count : ℕ) → R.remaining reader.old ≡ Some text
         → NobodyGainsFrom table text refused count }
@@ -251,8 +245,8 @@ pub fn play_script<P: Policy + Drop, R: Read, W: Write>(
 ) -> Result<(), ScriptFault>
     ensures played { (m : Machine) (text before : List ℕ) → Refines core.old m → R.remaining reader.old ≡ Some text
         → W.contents writer.old ≡ Some before → OnOk result (IsAnsweredBy m text before (W.contents writer.new) None) }
-    ensures bad { (m : Machine) (text before : List ℕ) (number : ℕ) → Refines core.old m → R.remaining reader.old ≡ Some text
-        → W.contents writer.old ≡ Some before → result ≡ Err (Fault.BadLine number)
+    ensures bad { (m : Machine) (text before : List ℕ) (number : ℕ) (reason : _) → Refines core.old m → R.remaining reader.old ≡ Some text
+        → W.contents writer.old ≡ Some before → result ≡ Err (Fault.BadLine number reason)
         → IsAnsweredBy m text before (W.contents writer.new) (Some number) }
     ensures whole { OnOk result (IsAtEnd (R.remaining reader.new)) }
 {

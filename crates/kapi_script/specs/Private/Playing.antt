@@ -6,11 +6,18 @@ use Rattle.kapi_core.specs.declared.event.Event.{Event}
 use Rattle.kapi_core.specs.Running.{Running}
 use Rattle.kapi_script.specs.AnswerLines.{answer_line, refused_line}
 use Rattle.kapi_script.specs.Scripts.{skipped, bad, told, line_of, lines, said, first_bad_from}
+use Rattle.kapi_script.specs.declared.line.LineError.{LineError}
+use Rattle.kapi_script.specs.declared.line.LineError.TheVariants as line_error
 use Rattle.kapi_script.specs.declared.script.Played.{Played}
 use Rattle.kapi_script.specs.declared.script.Played.TheVariants as played
 use Rattle.kapi_script.specs.declared.script.Script.{Script}
 use Rattle.kapi_script.specs.declared.script.ScriptFault.{ScriptFault}
 use Rattle.kapi_script.specs.declared.script.ScriptFault.TheVariants as fault
+
+-- memory ran out while a line was read
+abbrev pub wants_memory : LineError → Bool
+wants_memory (line_error.NoEvent reason) = false
+wants_memory line_error.Memory = true
 
 -- a script that is played: the machine that it begins on, and all its lines
 pub record Play : Type 0 where
@@ -20,21 +27,14 @@ pub record Play : Type 0 where
 -- what a line was, and what the machine made of it
 abbrev pub Plays : Running → Running → List ℕ → Played → Type 0
 Plays old new line played.Skipped = (line_of line ≡ skipped) × Keeps old new
-Plays old new line played.Bad = line_of line ≡ bad
+Plays old new line (played.Bad reason) = line_of line ≡ bad
 Plays old new line played.Refused = (event : Event) × (line_of line ≡ told event) × Keeps old new
 Plays old new line (played.Answered answer) = (event : Event) × (line_of line ≡ told event) × Makes old new event answer
-
--- the line had no known form
-abbrev pub is_bad_play : Played → Bool
-is_bad_play played.Skipped = false
-is_bad_play played.Bad = true
-is_bad_play played.Refused = false
-is_bad_play (played.Answered answer) = false
 
 -- what is written for a line
 abbrev pub played_text : Played → List ℕ
 played_text played.Skipped = []
-played_text played.Bad = []
+played_text (played.Bad reason) = []
 played_text played.Refused = refused_line
 played_text (played.Answered answer) = answer_line answer
 
@@ -57,13 +57,13 @@ Stopped all n before contents = (refused : List Bool) × (contents ≡ Some (bef
 -- failed
 abbrev pub IsPlayedOn : Play → List (List ℕ) → ℕ → Running → List ℕ → Option (List ℕ) → Result (Unit {0}) ScriptFault → Type 0
 IsPlayedOn all rest n core before contents (Ok done) = ReachedBy all rest n core before contents
-IsPlayedOn all rest n core before contents (Err (fault.BadLine number)) = Stopped all number before contents
+IsPlayedOn all rest n core before contents (Err (fault.BadLine number reason)) = Stopped all number before contents
 IsPlayedOn all rest n core before contents (Err e) = Unit {0}
 
 -- the lines were played to their end
 abbrev pub Ends : Play → List ℕ → Option (List ℕ) → Result (Unit {0}) ScriptFault → Type 0
 Ends all before contents (Ok done) = (refused : List Bool) × (contents ≡ Some (before ++ said all.begun all.lines refused)) × (first_bad_from 1 all.lines ≡ None)
-Ends all before contents (Err (fault.BadLine number)) = Stopped all number before contents
+Ends all before contents (Err (fault.BadLine number reason)) = Stopped all number before contents
 Ends all before contents (Err e) = Unit {0}
 
 -- in the midst of a line: what was read of it, and the bytes that were not yet read
@@ -73,5 +73,5 @@ Reading all unread core s before contents = All (λ b. (b == 10) ≡ false) s.li
 -- after some bytes more
 abbrev pub ReadsOn : Play → List ℕ → Running → Script → List ℕ → Option (List ℕ) → Result (Unit {0}) ScriptFault → Type 0
 ReadsOn all unread core s before contents (Ok done) = Reading all unread core s before contents
-ReadsOn all unread core s before contents (Err (fault.BadLine number)) = Stopped all number before contents
+ReadsOn all unread core s before contents (Err (fault.BadLine number reason)) = Stopped all number before contents
 ReadsOn all unread core s before contents (Err e) = Unit {0}

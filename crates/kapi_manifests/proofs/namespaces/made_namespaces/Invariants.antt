@@ -6,4 +6,4 @@ use Rattle.kapi_manifests.proofs.namespaces.made_namespaces.Given as goal
 
 abbrev pub invariant-loop-name : goal.invariant-loop-name
 invariant-loop-name l =
-    map data_of l.made.items ++ flat_map (λ need. made_if l.known.entries need.0) l.name-iterator ≡ made l.namespaces l.objects
+    map data_of l.made.items ++ flat_map (λ need. made_if l.known.entries need.0) l.name-iterator ≡ made l.table l.namespaces l.objects

@@ -14,7 +14,7 @@ returns c =
     let homes = c.in_ok-homes.homes.items in
     let objects = c.args.sorted.objects.items in
     let all : List Data =
-    map data_of homes ++ (made homes objects ++ (standing_among (map data_of objects) (standing_objects c.args.options.defaults) ++ map data_of objects)) in
+    map data_of homes ++ (made c.args.options.kinds.now homes objects ++ (standing_among (map data_of objects) (standing_objects c.args.options.defaults) ++ map data_of objects)) in
     let lines : AreOf c.in_ok-lines.lines all = rw (← c.as_slice-6.ensures.value, ← c.as_slice-7.ensures.value, ← standing) c.in_ok-lines.ensures in
     let dangling : IsDangling c.args.options.defaults (map origin_of c.in_ok-dangling.dangling.items) objects =
     rw (← c.as_slice-5.ensures.value) (c.in_ok-dangling.ensures _ standing) in

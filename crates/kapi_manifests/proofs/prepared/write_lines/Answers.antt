@@ -16,7 +16,7 @@ returns c =
     let second = c.in_ok-push_all-2.ensures _ first in
     let third = c.in_ok-push_all-3.ensures _ second in
     let fourth = c.in_ok-push_all-4.ensures _ third in
-    let made_is : map data_of c.as_slice.result.now ≡ made c.args.homes.now c.args.objects.now = ap (map data_of) c.as_slice.ensures.value ∙ c.in_ok-made.ensures in
+    let made_is : map data_of c.as_slice.result.now ≡ made c.args.table.now c.args.homes.now c.args.objects.now = ap (map data_of) c.as_slice.ensures.value ∙ c.in_ok-made.ensures in
     let standing_is : map data_of c.as_slice-2.result.now ≡ standing_among objects (map object_told c.args.standing.now) =
     ap (map data_of) c.as_slice-2.ensures.value ∙ c.in_ok-beneath.ensures in
     subst (λ (ds : List Data). AreOf c.push_all-4.new.self ds) (in_order homes _ _ objects _ _ made_is standing_is) fourth

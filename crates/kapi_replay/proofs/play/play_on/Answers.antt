@@ -12,4 +12,4 @@ returns-in-Ok c = λ m stands.
 pub returns-in-Err-BadLine : goal.returns-in-Err-BadLine
 returns-in-Err-BadLine c = λ m stands.
     refused (λ v. v.items) c.bad_line.result (with_rechecks c.args.case.now.rechecks m) c.args.case.now _ _ _ (c.as_slice-reader.ensures.value ∙ c.in_ok-script.ensures ∙ ap script_text c.as_slice.ensures)
-    (c.in-Err-BadLine.ensures.bad (with_rechecks c.args.case.now.rechecks m) _ [] c.in-Err-BadLine.number (c.recheck_watches.ensures.stands m stands) refl (ap Some c.new-answers.ensures.items) (ap Err c.in-Err-BadLine.field-0-is)) c.bad_line.ensures
+    (c.in-Err-BadLine.ensures.bad (with_rechecks c.args.case.now.rechecks m) _ [] c.in-Err-BadLine.number c.in-Err-BadLine.reason (c.recheck_watches.ensures.stands m stands) refl (ap Some c.new-answers.ensures.items) (ap Err c.in-Err-BadLine.field-0-is)) c.bad_line.ensures

@@ -10,7 +10,7 @@ returns-clause-played g c = λ m text before stands r w.
     (at_start m text before c.new.result.items c.args.core.now _ c.new.ensures.items stands w))
 
 pub returns-clause-bad : goal.returns-clause-bad
-returns-clause-bad g c = λ m text before number stands r w.
-    stopped_at m text before _ number _
+returns-clause-bad g c = λ m text before number reason stands r w.
+    stopped_at m text before _ number reason _
     (c.play_all.ensures.ends (record { begun = m; lines = lines text }) text before r
     (at_start m text before c.new.result.items c.args.core.now _ c.new.ensures.items stands w))

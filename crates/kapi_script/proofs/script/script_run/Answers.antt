@@ -9,7 +9,7 @@ pub returns-clause-played : goal.returns-clause-played
 returns-clause-played g c = λ text before r w. c.play_script.ensures.played (start c.args.table) text before c.in_ok-core.ensures.stands r w
 
 pub returns-clause-bad : goal.returns-clause-bad
-returns-clause-bad g c = λ text before number r w. c.play_script.ensures.bad (start c.args.table) text before number c.in_ok-core.ensures.stands r w
+returns-clause-bad g c = λ text before number reason r w. c.play_script.ensures.bad (start c.args.table) text before number reason c.in_ok-core.ensures.stands r w
 
 -- the law holds whatever the text is, and wherever it runs out of memory
 nobody_gains : (table : List ResourceRow) (text : List ℕ) (refused : List Bool) (count : ℕ) → NobodyGainsFrom table text refused count

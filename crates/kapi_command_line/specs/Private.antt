@@ -1,0 +1,2 @@
+-- What contracts inside this crate alone cite: a caller need not read it.
+pub mod Table

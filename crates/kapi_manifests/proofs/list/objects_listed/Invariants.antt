@@ -1,9 +1,0 @@
-use Rattle.std.proofs.Common.{◌≡◌, map, string_bytes}
-use Rattle.serde_json.specs.View.{view}
-use Rattle.kapi_manifests.specs.Files.{data_of}
-use Rattle.kapi_manifests.specs.Sorting.{item_of}
-use Rattle.kapi_manifests.proofs.list.objects_listed.Given as goal
-
--- each item so far has its kind
-abbrev pub invariant-loop-item : goal.invariant-loop-item
-invariant-loop-item l = map data_of l.all.items ≡ map (item_of l.kind (string_bytes l.version)) (map view l.yielded)

@@ -1,3 +1,0 @@
-pub mod BadLines
-pub mod Loaded
-pub mod Characters

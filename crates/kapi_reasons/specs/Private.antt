@@ -1,3 +1,0 @@
--- What contracts inside this crate alone cite: a caller need not read it.
-pub mod Requests
-pub mod Lines
