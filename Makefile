@@ -67,8 +67,8 @@ cluster-demo: $(READY) ## try: an API server that asks Kapi (docs/CLUSTER.md)
 proofs-page: ## change: prints each public call with its proved clauses
 	@$(PYTHON) tools/proofs.py
 
-definitions: ## change: prints what has to be believed (docs/PROOFS.md)
-	@$(PYTHON) tools/definitions.py
+definitions: ## change: what has to be believed, CLAIM=name (docs/PROOFS.md)
+	@$(PYTHON) tools/definitions.py $(CLAIM)
 
 profile: ## change: checks numbers and names of docs/PROOFS.md, PROFILE.md
 	@$(PYTHON) tools/proofs.py --lines > /dev/null || { echo 'docs/PROOFS.md has other numbers than tools/proofs.py --lines prints'; exit 1; }

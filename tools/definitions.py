@@ -1,10 +1,8 @@
 #!/usr/bin/env python3
-"""Prints the definitions that the two headline clauses rest on, and no others, in the reading order of docs/PROOFS.md.
+"""Prints the definitions that a claim of README rests on, and no others, in the reading order of docs/PROOFS.md.
 
-usage: definitions.py             their text (make definitions)
-       definitions.py --count     their number of lines, without comments and empty ones, and of files
-
-What a request is comes from the relation of `http/Requests`, which a law shows to be the scan's; how the scan goes is passed over.
+usage: definitions.py [CLAIM]     their text (make definitions CLAIM=nobody-gains); without a claim, of the first two rows of README's table
+       definitions.py --count     of each claim, their number of lines, without comments and empty ones, and of files
 """
 import pathlib
 import re
@@ -12,8 +10,23 @@ import sys
 
 ROOT = pathlib.Path(__file__).parent.parent
 CRATES = ROOT / "crates"
-HEADLINE = [("core/Machine", "step"), ("core/Gains", "NobodyGains"), ("core/Opening", "opening"), ("http/Requests", "AreCut")]
-PASSED_OVER = {"http/Cut", "http/Chunks", "http/Scan", "http/Head"}
+# Of each claim the definitions, `CRATE/FILE.NAME`, and the calls, `CRATE/FILE.rt:NAME`, of whose clauses it consists.
+CLAIMS = {
+    "nobody-gains": ["core/Gains.NobodyGains"],
+    "exact-answers": ["core/Machine.step", "core/Opening.opening", "http/Requests.AreCut", "serve/server.rt:serve_loop"],
+    "checked": ["guard/check.rt:check_write"],
+    "watches": ["core/laws.rt:what_is_sent_of_a_watch_makes_its_list"],
+    "compare": ["access/answer.rt:answer_compare", "access/laws.rt:every_gain_is_reported", "access/laws.rt:each_line_is_a_gain"],
+    "who": ["access/answer.rt:answer_who", "access/laws.rt:who_may_is_who_is_listed"],
+    "what": ["access/rights.rt:answer_what"],
+    "risks": ["access/answer.rt:answer_risks"],
+    "suggest": ["suggest/laws.rt:what_is_suggested_is_what_was_used", "suggest/laws.rt:every_use_is_allowed"],
+    "paths": ["paths/printed.rt:answer_paths"],
+    "audit": ["audit/audit.rt:audit_run"],
+    "replay": ["replay/replay.rt:replay_run"],
+    "library": ["c/lib.rt:kapi_ask"],
+}
+HEADLINE = ["nobody-gains", "exact-answers"]
 USE = re.compile(r"^(?:(?:pub|unfoldable)\s+)*use\s[^\n]*(?:\n[ \t}][^\n]*)*", re.M)
 DECLARED = re.compile(r"^ {0,2}(?:(?:pub|abbrev|unfoldable|opaque|data|record)\s+)*([^\s:(){},]+)\s*(?:[{(][^:]*:[^})]*[})]\s*)*:(?=\s)")
 
@@ -21,10 +34,8 @@ DECLARED = re.compile(r"^ {0,2}(?:(?:pub|abbrev|unfoldable|opaque|data|record)\s
 class Module:
     """A file of definitions: its blocks of text, the block of each name, and what it imports, by the name that it has here."""
 
-    def __init__(self, name):
+    def __init__(self, name, text):
         self.name, self.blocks, self.block_of, self.imports, self.modules = name, [], {}, {}, {}
-        crate, path = name.split("/", 1)
-        text = (CRATES / f"kapi_{crate}" / "specs" / f"{path}.antt").read_text()
         for item in USE.findall(text):
             self.take(re.sub(r"\s+", " ", item))
         for block in re.split(r"\n{2,}", USE.sub("", text)):
@@ -60,6 +71,19 @@ def words(lines):
     return set(re.findall(r'[^\s(){},;"]+', re.sub(r'"[^"]*"', "", code)))
 
 
+def file_of(name):
+    """The path of a name as `CRATE/FILE`, of a definition, or of a source if it ends in .rt."""
+    crate, path = name.split("/", 1)
+    return CRATES / f"kapi_{crate}" / (f"src/{path}" if path.endswith(".rt") else f"specs/{path}.antt")
+
+
+def clauses(name, call):
+    """The clauses of a function as a module of definitions, with what its source imports."""
+    text = file_of(name).read_text()
+    promise = re.search(rf"^pub [^\n]*fn {call}\b(.*?)^\{{", text, re.M | re.S)[1]
+    return Module(name, "\n".join([*re.findall(r"^ghost (use [^;]*);", text, re.M), "", f"{call} :", promise]))
+
+
 class Reading:
     """The blocks that are needed, by module."""
 
@@ -68,9 +92,19 @@ class Reading:
 
     def module(self, name):
         if name not in self.known:
-            there = (CRATES / f"kapi_{name.split('/')[0]}" / "specs" / f"{name.split('/', 1)[1]}.antt").is_file()
-            self.known[name] = Module(name) if there and name not in PASSED_OVER else None
+            self.known[name] = Module(name, file_of(name).read_text()) if file_of(name).is_file() else None
         return self.known[name]
+
+    def claim(self, name):
+        for head in CLAIMS[name]:
+            place, _, call = head.rpartition(":" if ":" in head else ".")
+            if ":" in head:
+                module = clauses(place, call)
+                todo = self.cited(module, [line for lines in module.blocks for line in lines])
+            else:
+                todo = [(place, call)]
+            for found in list(todo):
+                self.need(*found)
 
     def need(self, name, definition):
         todo = [(name, definition)]
@@ -108,10 +142,11 @@ def in_order(names):
     return sorted(names, key=lambda it: (page.index(it) if it in page else len(page), it))
 
 
-def needed():
+def needed(claims):
+    """The blocks that claims rest on, by module."""
     reading = Reading()
-    for name, definition in HEADLINE:
-        reading.need(name, definition)
+    for claim in claims:
+        reading.claim(claim)
     return {name: [reading.known[name].blocks[it] for it in sorted(reading.needed[name])] for name in in_order(reading.needed)}
 
 
@@ -121,14 +156,19 @@ def count(modules):
 
 
 def main(words):
-    modules = needed()
     if words == ["--count"]:
-        print(f"{count(modules):,} lines of {len(modules)} files")
-        return
-    for name, blocks in modules.items():
+        for claim in CLAIMS:
+            modules = needed([claim])
+            print(f"{claim}: {count(modules):,} lines of {len(modules)} files")
+        return 0
+    if [it for it in words if it not in CLAIMS]:
+        print(__doc__, f"The claims: {', '.join(CLAIMS)}", file=sys.stderr)
+        return 2
+    for name, blocks in needed(words or HEADLINE).items():
         print(f"-- ==== {name}\n")
         print("\n\n".join("\n".join(lines) for lines in blocks), end="\n\n")
+    return 0
 
 
 if __name__ == "__main__":
-    main(sys.argv[1:])
+    sys.exit(main(sys.argv[1:]))

@@ -130,17 +130,18 @@ def count():
     reached(definition("core/Machine"), seen)
     reached(definition("core/Refines"), refines)
     machine, read = lines(definition("core/Machine")), sum(map(lines, seen))
-    needed = definitions.needed()
+    needed = definitions.needed(definitions.HEADLINE)
     sentences = {
         f"The table has {sum(map(sum, parts)):,} lines in {sum(map(len, parts))} files, of some {round(sum(whole), -2):,} lines in all.": PAGE,
         f"`Machine.antt` and all that it imports from Kapi's crates have {read:,} lines in {len(seen)} files.": PAGE,
         f'For "nobody gains" read parts 1 to 4, {sum(map(sum, parts[:4]))} lines.': PAGE,
-        f"takes part 7 from its first six files, {sum(parts[6][:6])} lines.": PAGE,
+        f"Of part 7 the first six files, {sum(parts[6][:6])} lines,": PAGE,
         f"and nothing else, in reading order: {definitions.count(needed):,} lines of {len(needed)} files.": PAGE,
-        f"The other four, {sum(parts[6][6:])} lines,": PAGE,
+        f"the other four, {sum(parts[6][6:])} lines,": PAGE,
         f"what only it needs ({sum(map(lines, refines - table))} lines together).": PAGE,
         f"`step` in `kapi_core/specs/Machine.antt`, {machine} lines.": PAGE,
-        f"`crates/kapi_core/specs/Machine.antt`: {machine} lines. The first two rows rest on {definitions.count(needed):,}": ROOT / "README.md",
+        f"`crates/kapi_core/specs/Machine.antt`: {machine} lines.": ROOT / "README.md",
+        **{f"`{it}` {definitions.count(definitions.needed([it])):,}": ROOT / "README.md" for it in definitions.CLAIMS},
     }
     for said, page in sentences.items():
         is_there = said in " ".join(page.read_text().split())
