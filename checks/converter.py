@@ -89,6 +89,7 @@ def folders(folder):
     os.mkfifo(folder / "rbac/z.yaml")
     yield "a FIFO", converted("rbac", folder=folder)[:2], (1, "")
     yield "no file", converted("none", folder=folder)[:2], (1, "")
+    yield "a name that clears the screen", converted("\x1b[2J##[error]", folder=folder), (1, "", "\\u001b[2J#\\u0023[error]: [Errno 2] No such file or directory: '\\x1b[2J#\\u0023[error]'\n")
 
 
 def large(folder):

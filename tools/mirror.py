@@ -44,7 +44,8 @@ FAULTS = (Fault, OSError, ValueError, KeyError, http.client.HTTPException, urlli
 
 
 def say(text):
-    print(time.strftime("%H:%M:%S"), text, flush=True)
+    """Prints a text without characters that a terminal obeys: names and answers of the cluster are in it."""
+    print(time.strftime("%H:%M:%S"), "".join(it if it.isprintable() else f"\\u{ord(it):04x}" for it in text), flush=True)
 
 
 def words_of(fault):

@@ -168,11 +168,20 @@ def files(path, above=()):
     return [it for each in sorted(path.iterdir()) for it in files(each, (*above, path.resolve()))]
 
 
+def printable(text):
+    """The text in one line, without characters that a terminal obeys, or ##[, which a CI system does."""
+    return "".join(it if it.isprintable() else f"\\u{ord(it):04x}" for it in str(text)).replace("##[", "#\\u0023[")
+
+
+def refuse(text):
+    sys.exit(printable(text))
+
+
 def lines(path, name):
     """The documents of a file, each below the line that it stands in; none of a file that is passed over, which is named."""
     if path and path != pathlib.Path(name) and path.suffix not in READ:
         if not any(it.startswith(".") for it in path.relative_to(name).parts):
-            print(f"not read: {path}", file=sys.stderr)
+            print(printable(f"not read: {path}"), file=sys.stderr)
             return None
         return []
     if path and not stat.S_ISREG(os.stat(path).st_mode):
@@ -193,11 +202,11 @@ def main(words):
             for path in files(path) if path else [None]:
                 made.append(lines(path, name))
         except Refused as fault:
-            sys.exit(f"{path or name}:{fault.args[0] + 1}: {fault.args[1]}")
+            refuse(f"{path or name}:{fault.args[0] + 1}: {fault.args[1]}")
         except RecursionError:
-            sys.exit(f"{path or name}: it nests too deep")
+            refuse(f"{path or name}: it nests too deep")
         except (OSError, ValueError, yaml.YAMLError) as error:
-            sys.exit(f"{path or name}: {error}")
+            refuse(f"{path or name}: {' '.join(str(error).split())}")
     print("".join(f"{it}\n" for each in made for it in each or []), end="")
     sys.exit(1 if None in made and "--strict" in words else 0)
 

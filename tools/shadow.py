@@ -52,6 +52,11 @@ def read(file):
     return list(decided.values()), others
 
 
+def say(text):
+    """Prints a text without characters that a terminal obeys: names of the log are in it."""
+    print("".join(it if it.isprintable() else f"\\u{ord(it):04x}" for it in text))
+
+
 def ask(program, policy, events):
     """Whether the policy allows each."""
     with tempfile.NamedTemporaryFile("w", suffix=".jsonl") as file:
@@ -72,7 +77,7 @@ def show_differences(events, answers):
     differ = [(event, answer) for event, answer in zip(events, answers) if answer != was_allowed(event)]
     for event, answer in differ:
         decided = f"API server {event['annotations'][DECISION]}, policy {'allow' if answer else 'forbid'}"
-        print(f"{decided}: {event['requestReceivedTimestamp']} {event['requestURI']} {json.dumps(question(event))}")
+        say(f"{decided}: {event['requestReceivedTimestamp']} {event['requestURI']} {json.dumps(question(event))}")
     print(f"{len(events)} decisions, {len(events) - len(differ)} alike, {len(differ)} that differ")
     return len(differ)
 
@@ -93,7 +98,7 @@ def show_refusals(events, answers):
     rows = [("REQUESTS", "USER", "NAMESPACE", "VERB", "RESOURCE AND NAME, OR PATH")] + [(str(number), *row) for row, number in sorted(counts.items())]
     widths = [max(len(row[at]) for row in rows) for at in range(5)]
     for row in rows if counts else []:
-        print("  ".join(word.ljust(width) for word, width in zip(row, widths)).rstrip())
+        say("  ".join(word.ljust(width) for word, width in zip(row, widths)).rstrip())
     gained = sum(answer and not was_allowed(event) for event, answer in zip(events, answers))
     print(f"of {sum(map(was_allowed, events))} allowed requests {sum(counts.values())} would be refused; of the refused {gained} would be allowed")
 
