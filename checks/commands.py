@@ -146,7 +146,7 @@ CASES = [
     case("compare --strict after after", "Nobody gains.\n"),
     case("compare --atoms before after", gains(*ATOMS), 3), case("compare --lost before after", gains(DELETE), 3),
     case("compare --lost --atoms after before", gains(*ATOMS), 3),
-    case("compare --format markdown before after", "| SUBJECT | NAMESPACE | GAINS | BY |\n|---|---|---|---|\n" + "".join(f"| {it} |\n" for it in (OLGA, LIST)), 3),
+    case("compare --format markdown before after", "| SUBJECT | NAMESPACE | GAINS | BY |\n|---|---|---|---|\n" + "".join(f"| {it} |\n".replace("*", r"\*") for it in (OLGA, LIST)), 3),
     case("compare --format table before after", gains(OLGA, LIST), 3), case("compare --format text before after", "", 2),
     *[case(it, "", 1) for it in ("compare homeless more", "who homeless impersonate users", "risks homeless")],
     *[case(f"compare homeless more --namespace {it}", gains(EVE.format(it)), 3) for it in ("shop", "web")],

@@ -150,7 +150,7 @@ BOB = ("User bob", "shop", "RoleBinding viewers", "ClusterRole view, rule 0")
 QUESTIONS = "".join(json.dumps({"user": user, "resourceAttributes": {"namespace": "shop", "verb": "get", "resource": what}}) + "\n" for user, what in (("ann", "secrets"), ("bob", "pods")))
 ALLOWED = "allowed RoleBinding readers, Role reader, rule 0\n"
 NONE = "none: there is no role and no binding in it"
-MEANT = "no rule names the resource secret; did you mean secrets?"
+MEANT = "no rule names the resource secretz; did you mean secrets?"
 ASKED = [
     {"user": "anne", "resourceAttributes": {"namespace": "shop", "verb": "get", "resource": "widgets"}},
     {"user": "olga", "groups": ["system:masters"], "nonResourceAttributes": {"verb": "get", "path": "/healthz"}},
@@ -172,11 +172,12 @@ TOGETHER = [
     *[Case(f"audit readers questions {it}", 2, READING, "") for it in ("--strict", "--with roles", "--with-defaults", "--namespace shop")],
     *[Case(f"{it} --strict", 1, NONE, None, files={"none": lines(SHOP)}) for it in ("risks none", "who none get secrets")],
     Case("audit --manifests none questions", 0, NONE + "\nno binding names the user ann\nno binding names the user bob", "denied\n" * 2),
-    Case("who before get secret", 0, MEANT, None),
+    Case("who before get secretz", 0, MEANT, None),
+    Case("who before get secret", 0, "", None),
     Case("who before gte secrets --namespace shpo --strict", 1, "no rule names the verb gte; did you mean get?\nno object names the namespace shpo; did you mean shop?", None),
     Case("who before get endpoints", 0, "no rule names the resource endpoints", None),
     *[Case(f"who before {it}", 0, "", None) for it in ("get endpoints --with-defaults", "get /healthz", "get pods/log", "'*' '*'", "delete deployments.apps")],
-    Case("who before --questions lines --strict", 1, MEANT, None, files={"lines": "# two\nget secret shop\nlist secret *\n"}),
+    Case("who before --questions lines --strict", 1, MEANT, None, files={"lines": "# two\nget secretz shop\nlist secretz *\n"}),
     Case("audit --manifests before asked --strict", 1, "no rule names the resource widgets\nno binding names the user anne; did you mean ann?\nno binding names the service account till", "denied\nallowed group system:masters\ndenied\n",
          files={"asked": "".join(json.dumps(it) + "\n" for it in ASKED)}),
     Case("who none get secrets --with-defaults", 0, NONE, None),

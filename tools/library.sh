@@ -36,8 +36,11 @@ ld -r -o "$room/kapi.o" --whole-archive "$archive" --no-whole-archive "$kit/c/li
 objcopy --wildcard --keep-global-symbol='kapi_*' "$room/kapi.o"
 ar rcs "$room/libkapi.a" "$room/kapi.o"
 echo 'KAPI_1 { global: kapi_*; local: *; };' > "$room/exports"
-# Code and constants share a segment, which nobody may write: each on pages of its own would be ten thousand bytes more.
-"${CC:-cc}" -shared -Wl,-soname,libkapi.so.1 -Wl,--version-script="$room/exports" -Wl,--gc-sections -Wl,-z,defs -Wl,-z,noseparate-code -s -o "$room/libkapi.so.1" "$room/kapi.o"
+# Functions of the same bytes are one, a tenth of all, if the linker gold is there: no address of a function is compared here. Else code and constants
+# share a segment, which nobody may write.
+smaller=-Wl,-z,noseparate-code
+! command -v ld.gold > /dev/null || smaller='-fuse-ld=gold -Wl,--icf=safe'
+"${CC:-cc}" -shared -Wl,-soname,libkapi.so.1 -Wl,--version-script="$room/exports" -Wl,--gc-sections -Wl,-z,defs $smaller -s -o "$room/libkapi.so.1" "$room/kapi.o"
 cat > "$room/kapi.pc" << END
 prefix=$prefix
 Name: kapi
