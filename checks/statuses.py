@@ -248,10 +248,14 @@ LOG = logged("get", "forbid") + logged("delete", "allow") + logged("delete", "fo
 DOUBT, EVE = "RoleBinding shop/b: Role r is not in the policy: it gives nothing", "User eve: {} pods in namespace shop"
 FEEDS = lines(labelled("feeds", f"{RBAC}/aggregate-to-view", "true", rules=[rule("get", "leases", "coordination.k8s.io")]), labelled("other", "aggregate-to-view", "true", rules=[rule("get", "leases")]))
 LEFT_OUT = "left out, as members of system:masters need no role: 1\n"
-MAY_GO = "".join(f"may go: {it}\n" for it in ("ClusterRoleBinding cluster-admin, ClusterRole cluster-admin, rule 1",
-                                              "ClusterRoleBinding system:basic-user, ClusterRole system:basic-user, rule 0", "RoleBinding shop/b, Role r, rule 1"))
+MAY_GO = "".join(f"may go: {it}\n" for it in ("ClusterRoleBinding system:basic-user, ClusterRole system:basic-user, rule 0", "RoleBinding shop/b, Role r, rule 1"))
 ROBOTS = lines(thing("ServiceAccount", "robot"), thing("Role", "r", "shop", rules=[rule("get", "pods")]),
                thing("RoleBinding", "b", "shop", **bound("Role r", "ServiceAccount robot shop", "ServiceAccount default shop")))
+# Members that an API server drops: the first rule gives all Secrets.
+MISSPELT = lines(thing("ClusterRole", "c", aggregationRule={"clusterRoleSelectors": [{"matchLabel": {}}]}, rule=[]), thing("Role", "r", "shop", rules=[{**rule("get", "secrets"), "resourceName": ["a"]}]),
+                 thing("RoleBinding", "b", "shop", **bound("Role r", "User eve"), subject=[]))
+UNREAD = "\n".join(f"{it}: Kubernetes has no such member, and it is not read" for it in (
+    "ClusterRole c: matchLabel in clusterRoleSelectors", "ClusterRole c: rule in ClusterRole", "Role shop/r: resourceName in rules", "RoleBinding shop/b: subject in RoleBinding"))
 # Names that would be escapes of a terminal, HTML and commands of a CI system.
 NAMES = lines(thing("ClusterRole", "r", rules=[rule("::get", "pods")]), thing("ClusterRoleBinding", "b", **bound("ClusterRole r", "User eve")),
               thing("ClusterRoleBinding", "\x1b[2J<b>|##[error]", **bound("ClusterRole none", "User ::x")))
@@ -273,6 +277,8 @@ FINDINGS = [
     Case("suggest --policy unused uses", 0, f"left out, as the policy denies them: 2\n{LEFT_OUT}{MAY_GO}".strip(),
          files={"unused": UNUSED, "uses": used("ann", "get") + used("ann", "delete") + used("bob", "get", group="") + used("root", "get", group="system:masters")}),
     Case("suggest uses", 0, LEFT_OUT.strip()),
+    Case("suggest --policy unused one", 0, re.compile("(?s).*\nmay go: RoleBinding shop/b, Role r, rule 0, rule 1"), None, files={"one": used("root", "get", group="system:masters")}),
+    *[Case(f"compare misspelt misspelt {words}".strip(), status, UNREAD, "Nobody gains.\n" if not words else None, files={"misspelt": MISSPELT}) for words, status in (("", 0), ("--strict", 1))],
     Case("suggest --policy chain uses", 4, re.compile(f"left out, as the policy denies them: 3\n(.*\n)*{UNSETTLED}")),
     Case("check chain", 4, UNSETTLED, told=re.compile("WHERE.*\n(chain:[0-9]+ .*: nothing binds it\n)+")),
     Case("check feeds", 3, told="WHERE    FINDING\nfeeds:2  ClusterRole other: nothing binds it\nfeeds:2  ClusterRole other: rule 0: no kind serves the resource leases\n", files={"feeds": FEEDS}),

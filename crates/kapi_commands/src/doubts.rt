@@ -123,7 +123,8 @@ impl Doubts {
         self.tell_line(rt, format!(in rt.alloc(); "{name}: {EMPTY}")?)
     }
 
-    /// Reports the bindings of a policy whose role is not in it, and how many objects of its files make others elsewhere.
+    /// Reports the bindings of a policy whose role is not in it, how many objects of its files make others elsewhere, and
+    /// the members of roles and bindings that nobody reads.
     pub fn tell<R: Eprint + AllocGlobal>(&mut self, rt: &R, policy: &ReadPolicy) -> io::Result<()> {
         for kind in MAKERS {
             let word = Text::copy_of(rt.alloc(), kind)?;
@@ -136,6 +137,12 @@ impl Doubts {
             let (binding, role) = (dangling.binding.as_str(), dangling.role.as_str());
             let line = format!(in rt.alloc();
                 "{binding}: {role} is not in the policy: it gives nothing"
+            )?;
+            self.tell_line(rt, line)?;
+        }
+        for unread in policy.prepared.words.of(rt.alloc(), "unread")?.iter() {
+            let line = format!(in rt.alloc();
+                "{unread}: Kubernetes has no such member, and it is not read"
             )?;
             self.tell_line(rt, line)?;
         }

@@ -9,6 +9,8 @@ use kapi_command_line::SuggestWords;
 use kapi_engine::{access_reviews, question_of};
 use kapi_index::IndexedPolicy;
 use kapi_lines::numbered_lines;
+use kapi_model::Subject;
+use kapi_policy::Binding;
 use kapi_reviews::Question;
 use kapi_suggest::{allowed_uses, list, manifests, read_events, suggest, unused_rules};
 use kapi_text::Memory;
@@ -123,22 +125,53 @@ fn tell_masters(rt: &impl Eprint, uses: &[Question]) -> io::Result<()> {
     Ok(())
 }
 
-/// Reports the rules that no use needs, as bindings give them.
+/// Reports the rules that no use needs, a line for each binding that gives them. Members of `system:masters` need no rule,
+/// so bindings of that group alone are left out.
 fn tell_unused<R: Eprint + AllocGlobal>(
     rt: &R,
     policy: &IndexedPolicy,
     uses: &[Question],
 ) -> io::Result<()> {
     let bindings = policy.bindings()?;
+    let mut last = String::new(rt.alloc());
     for found in unused_rules(rt.alloc(), policy, bindings.as_slice(), uses)?.iter() {
-        let binding = &found.binding;
-        let kind = binding_kind(binding.kind);
-        let words = place_words(rt.alloc(), kind, binding.namespace, binding.name)?;
-        let words = Plain(words.as_str());
-        let role_kind = binding.role.kind.as_str();
-        let role = Plain(binding.role.name.as_str());
-        let rule = found.rule;
-        eprintln!(rt; "may go: {words}, {role_kind} {role}, rule {rule}")?;
+        let (rule, words) = (found.rule, unused_words(rt.alloc(), &found.binding)?);
+        if found
+            .binding
+            .subjects
+            .iter()
+            .all(|subject| is_masters(subject))
+        {
+            continue;
+        }
+        if words.as_str() == last.as_str() {
+            eprint!(rt; ", rule {rule}")?;
+            continue;
+        }
+        if !last.is_empty() {
+            rt.eprint("\n")?;
+        }
+        let plain = Plain(words.as_str());
+        eprint!(rt; "may go: {plain}, rule {rule}")?;
+        last = words;
     }
-    Ok(())
+    if last.is_empty() {
+        return Ok(());
+    }
+    rt.eprint("\n")
+}
+
+/// A binding and its role in words.
+fn unused_words(alloc: Global, binding: &Binding<'_>) -> Result<String, Memory> {
+    let kind = binding_kind(binding.kind);
+    let words = place_words(alloc, kind, binding.namespace, binding.name)?;
+    let (role_kind, role) = (binding.role.kind.as_str(), binding.role.name.as_str());
+    format!(in alloc; "{words}, {role_kind} {role}")
+}
+
+fn is_masters(subject: &Subject) -> bool {
+    match subject {
+        Subject::Group(group) => group.as_str() == "system:masters",
+        _ => false,
+    }
 }

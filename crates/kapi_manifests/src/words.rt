@@ -1,4 +1,5 @@
-//! The words that objects name: verbs and resources of rules, subjects of bindings, and namespaces.
+//! The words that objects name: verbs and resources of rules, subjects of bindings, and namespaces; and their members that
+//! nobody reads.
 
 use crate::kinds::{is_namespace, metadata_text, text_at};
 use kapi_model::ResourceRow;
@@ -7,7 +8,11 @@ use serde_json::Value;
 use std::alloc::Global;
 use std::collections::BTreeSet;
 
-/// Words of objects, each behind what it is, as `verb get`, `resource pods`, `namespace shop` and `User ann`.
+/// The kinds of objects whose members are known.
+const POLICY: [&str; 4] = ["ClusterRole", "ClusterRoleBinding", "Role", "RoleBinding"];
+
+/// Words of objects, each behind what it is, as `verb get`, `resource pods`, `namespace shop`, `User ann`, and
+/// `unread Role shop/reader: resourceName in rules`.
 #[derive(Drop)]
 pub struct Words {
     named: BTreeSet<Text>,
@@ -39,7 +44,62 @@ impl Words {
         } else {
             "namespace"
         };
-        self.insert(alloc, "namespace", metadata_text(object, key))
+        self.insert(alloc, "namespace", metadata_text(object, key))?;
+        if POLICY.contains(&text_at(object, "kind")) {
+            self.add_unread_parts(alloc, object)?;
+        }
+        Ok(())
+    }
+
+    /// Adds the members that are not read of a role or binding and of what it holds.
+    fn add_unread_parts(&mut self, alloc: Global, object: &Value) -> Result<(), Memory> {
+        self.add_unread(alloc, object, text_at(object, "kind"), Some(object))?;
+        self.add_unread(alloc, object, "roleRef", object.get("roleRef"))?;
+        self.add_unread_items(alloc, object, "rules", Some(object))?;
+        self.add_unread_items(alloc, object, "subjects", Some(object))?;
+        let aggregation = object.get("aggregationRule");
+        self.add_unread(alloc, object, "aggregationRule", aggregation)?;
+        self.add_unread_items(alloc, object, "clusterRoleSelectors", aggregation)?;
+        for selector in items_of(aggregation, "clusterRoleSelectors") {
+            self.add_unread_items(alloc, object, "matchExpressions", Some(selector))?;
+        }
+        Ok(())
+    }
+
+    fn add_unread_items(
+        &mut self,
+        alloc: Global,
+        object: &Value,
+        part: &str,
+        holder: Option<&Value>,
+    ) -> Result<(), Memory> {
+        for item in items_of(holder, part) {
+            self.add_unread(alloc, object, part, Some(item))?;
+        }
+        Ok(())
+    }
+
+    /// Adds the members that are not read of a part of an object.
+    fn add_unread(
+        &mut self,
+        alloc: Global,
+        object: &Value,
+        part: &str,
+        value: Option<&Value>,
+    ) -> Result<(), Memory> {
+        let Some(Value::Object(members)) = value else {
+            return Ok(());
+        };
+        let (kind, name) = (text_at(object, "kind"), metadata_text(object, "name"));
+        let namespace = metadata_text(object, "namespace");
+        let slash = if namespace.is_empty() { "" } else { "/" };
+        for (key, _value) in members {
+            if !members_read(part).contains(&key.as_str()) {
+                let word = format!(in alloc; "{kind} {namespace}{slash}{name}: {key} in {part}")?;
+                self.insert(alloc, "unread", word.as_str())?;
+            }
+        }
+        Ok(())
     }
 
     /// Adds the resource of a resource type that is served.
@@ -67,6 +127,35 @@ impl Words {
             .filter(|(sort, _word)| *sort == what)
             .map(|(_sort, word)| word)
             .collect(alloc)
+    }
+}
+
+/// The members that are read of a role or binding, and of a part of it (Kubernetes API, rbac.authorization.k8s.io/v1).
+fn members_read(part: &str) -> &'static [&'static str] {
+    match part {
+        "ClusterRole" => &["apiVersion", "kind", "metadata", "rules", "aggregationRule"],
+        "Role" => &["apiVersion", "kind", "metadata", "rules"],
+        "rules" => &[
+            "verbs",
+            "apiGroups",
+            "resources",
+            "resourceNames",
+            "nonResourceURLs",
+        ],
+        "subjects" => &["kind", "apiGroup", "name", "namespace"],
+        "roleRef" => &["apiGroup", "kind", "name"],
+        "aggregationRule" => &["clusterRoleSelectors"],
+        "clusterRoleSelectors" => &["matchLabels", "matchExpressions"],
+        "matchExpressions" => &["key", "operator", "values"],
+        _ => &["apiVersion", "kind", "metadata", "roleRef", "subjects"],
+    }
+}
+
+/// The elements of the list at a key of what holds it, if that is there.
+fn items_of<'a>(holder: Option<&'a Value>, key: &str) -> &'a [Value] {
+    match holder {
+        Some(holder) => elements(holder, key),
+        None => &[],
     }
 }
 
