@@ -1,11 +1,11 @@
 //! The C library: `include/kapi.h` is its other side. Each export calls one function. A policy crosses as a pointer to a
-//! struct that C never sees into, which is a holder of an engine here.
+//! struct that C never sees into, which is a holder of a loaded policy here.
 #![tactic(auto)]
 
 ghost use Rattle.std.specs.Prelude.{◌≡◌, ℕ, suc, MatchResult, Ok};
 ghost use Rattle.std.specs.Borrow.{sem};
-ghost use Rattle.kapi_engine.specs.Engines.{engine_of};
-ghost use Rattle.kapi_engine.specs.declared.engine.Engine.{Engine as Loaded};
+ghost use Rattle.kapi_engine.specs.LoadedPolicies.{loaded_of};
+ghost use Rattle.kapi_engine.specs.declared.loaded_policy.LoadedPolicy.{LoadedPolicy as Loaded};
 ghost use Rattle.kapi_calls.specs.Answers.{IsAnswered};
 ghost use Rattle.kapi_calls.specs.Batches.{IsBatch};
 ghost use Rattle.kapi_c.specs.Handles.{IsLoaded, handed, holds_at};
@@ -39,7 +39,7 @@ pub extern "C" fn kapi_load(
     line: &mut usize,
     policy: &mut *mut Policy,
 ) -> u32
-    ensures* { sem 𝓛 (handed result policy.old policy.new (engine_of objects.now)) ∗ ⌜ IsLoaded (engine_of objects.now) line.old line.new result ⌝ }
+    ensures* { sem 𝓛 (handed result policy.old policy.new (loaded_of objects.now)) ∗ ⌜ IsLoaded (loaded_of objects.now) line.old line.new result ⌝ }
 {
     match make_engine(alloc, objects, line) {
         Ok(made) => put(policy, Box::into_raw(made)),
@@ -56,7 +56,7 @@ pub extern "C" fn kapi_decide(
     decisions: &mut [u32],
     line: &mut usize,
 ) -> u32
-    ensures { IsBatch (engine_of objects.now) questions.now decisions.old decisions.new line.old line.new result }
+    ensures { IsBatch (loaded_of objects.now) questions.now decisions.old decisions.new line.old line.new result }
 {
     decide_batch(alloc, objects, questions, decisions, line)
 }

@@ -1,5 +1,5 @@
 ghost use Rattle.std.specs.Prelude.{◌≡◌, ℕ, suc, MatchResult, Ok};
-ghost use Rattle.kapi_engine.specs.Engines.{engine_of};
+ghost use Rattle.kapi_engine.specs.LoadedPolicies.{loaded_of};
 ghost use Rattle.kapi_c.specs.Handles.{IsLoaded};
 ghost use Rattle.kapi_c.specs.Statuses.{status_in};
 
@@ -24,14 +24,14 @@ fn boxed(alloc: Global, holder: Shared) -> Result<Box<Shared, Global>, u32>
     }
 }
 
-/// The engine of objects on the heap, or the status of a load that fails.
+/// The loaded policy of objects on the heap, or the status of a load that fails.
 pub fn make_engine(
     alloc: Global,
     objects: &[u8],
     line: &mut usize,
 ) -> Result<Box<Shared, Global>, u32>
-    ensures made { MatchResult result (λ b. engine_of objects.now ≡ Ok b.value) (λ status. (n : ℕ) × (status ≡ suc n)) }
-    ensures line { IsLoaded (engine_of objects.now) line.old line.new (status_in result) }
+    ensures made { MatchResult result (λ b. loaded_of objects.now ≡ Ok b.value) (λ status. (n : ℕ) × (status ≡ suc n)) }
+    ensures line { IsLoaded (loaded_of objects.now) line.old line.new (status_in result) }
 {
     let made = match load(alloc, objects) {
         Ok(made) => made,

@@ -3,7 +3,7 @@ use Rattle.std.specs.Prelude.{◌≡◌, ℕ, ◌<◌, ◌==◌, Bool, true, fal
 use Rattle.kapi_text.specs.Gives.{◌>>=◌}
 use Rattle.kapi_policy.specs.Decided.{Decided, allowed, decided, denied, masters}
 use Rattle.kapi_engine.specs.Lines.{decision_line}
-use Rattle.kapi_engine.specs.declared.engine.Engine.{Engine}
+use Rattle.kapi_engine.specs.declared.loaded_policy.LoadedPolicy.{LoadedPolicy}
 use Rattle.kapi_calls.specs.declared.answering.Answer.{Answer}
 use Rattle.kapi_calls.specs.declared.fault.CallFault.{CallFault}
 use Rattle.kapi_calls.specs.declared.fault.CallFault.TheVariants as fault
@@ -21,8 +21,8 @@ number_of (allowed g) = 1
 number_of masters = 2
 
 -- what is decided of what is asked
-abbrev pub decided_of : Engine → AccessQuestion → Decided
-decided_of engine asked = decided engine.policy asked.identity asked.namespace asked.point
+abbrev pub decided_of : LoadedPolicy → AccessQuestion → Decided
+decided_of loaded asked = decided loaded.policy asked.identity asked.namespace asked.point
 
 abbrev pub number_alone : Decided → Given
 number_alone d = record { number = number_of d; text = [] }
@@ -31,13 +31,13 @@ abbrev pub with_line : Decided → Given
 with_line d = record { number = number_of d; text = decision_line d }
 
 -- what is answered: whether the roles are settled, a decision, a decision and its line, or a text; that of paths is given
-unfoldable pub given_of : List ℕ → Engine → Call → Result Given CallFault
-given_of paths engine call =
-    if call.wants == 0 then Ok (settled_with engine [])
-    else (if call.wants == 1 then (question_of call.question >>= λ asked. Ok (number_alone (decided_of engine asked)))
-    else (if call.wants == 2 then (question_of call.question >>= λ asked. Ok (with_line (decided_of engine asked)))
-    else (if call.wants == 7 then paths_given paths engine call
-    else listed engine call)))
+unfoldable pub given_of : List ℕ → LoadedPolicy → Call → Result Given CallFault
+given_of paths loaded call =
+    if call.wants == 0 then Ok (settled_with loaded [])
+    else (if call.wants == 1 then (question_of call.question >>= λ asked. Ok (number_alone (decided_of loaded asked)))
+    else (if call.wants == 2 then (question_of call.question >>= λ asked. Ok (with_line (decided_of loaded asked)))
+    else (if call.wants == 7 then paths_given paths loaded call
+    else listed loaded call)))
 
 -- the number and the text stand where the caller said, and the room behind the text is as before
 abbrev pub IsWritten : Given → Answer → List ℕ → List ℕ → Type 0
@@ -81,11 +81,11 @@ Ends given old new room room' (failed (fault.Line number)) = (given ≡ Err (fau
 Ends given old new room room' (failed other) = (given ≡ Err other) × IsKept old new room room'
 
 -- if paths are asked for and found, the text is theirs
-abbrev pub HasPaths : List ℕ → Engine → Call → End → Type 0
-HasPaths paths engine call (failed fault) = Unit {0}
-HasPaths paths engine call end = call.wants ≡ 7 → ArePaths paths engine call
+abbrev pub HasPaths : List ℕ → LoadedPolicy → Call → End → Type 0
+HasPaths paths loaded call (failed fault) = Unit {0}
+HasPaths paths loaded call end = call.wants ≡ 7 → ArePaths paths loaded call
 
 -- the status says how the call ended, and the caller finds what then stands there
-abbrev pub IsAnswered : Engine → Call → Answer → Answer → List ℕ → List ℕ → ℕ → Type 0
-IsAnswered engine call old new room room' status =
-    (paths : List ℕ) × (end : End) × (status ≡ status_of end) × Ends (given_of paths engine call) old new room room' end × HasPaths paths engine call end
+abbrev pub IsAnswered : LoadedPolicy → Call → Answer → Answer → List ℕ → List ℕ → ℕ → Type 0
+IsAnswered loaded call old new room room' status =
+    (paths : List ℕ) × (end : End) × (status ≡ status_of end) × Ends (given_of paths loaded call) old new room room' end × HasPaths paths loaded call end

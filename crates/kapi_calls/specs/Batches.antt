@@ -4,7 +4,7 @@ use Rattle.kapi_text.specs.Gives.{◌>>=◌}
 use Rattle.kapi_loading.specs.Faults.{FileFault, bad_line}
 use Rattle.kapi_loading.specs.declared.fault.StartError.{StartError}
 use Rattle.kapi_loading.specs.declared.fault.StartError.TheVariants as start
-use Rattle.kapi_engine.specs.declared.engine.Engine.{Engine}
+use Rattle.kapi_engine.specs.declared.loaded_policy.LoadedPolicy.{LoadedPolicy}
 use Rattle.kapi_calls.specs.declared.fault.CallFault.{CallFault}
 use Rattle.kapi_calls.specs.declared.fault.CallFault.TheVariants as fault
 use Rattle.kapi_calls.specs.declared.passed.PassedQuestion.{PassedQuestion}
@@ -14,12 +14,12 @@ use Rattle.kapi_calls.specs.Faults.{code_of}
 use Rattle.kapi_calls.specs.Questions.{question_of}
 
 -- the number of what is decided of a question
-abbrev pub number_in : Engine → PassedQuestion → Result ℕ CallFault
-number_in engine q = question_of q >>= λ asked. Ok (number_of (decided_of engine asked))
+abbrev pub number_in : LoadedPolicy → PassedQuestion → Result ℕ CallFault
+number_in loaded q = question_of q >>= λ asked. Ok (number_of (decided_of loaded asked))
 
 -- those of all questions
-abbrev pub numbers_of : Engine → List PassedQuestion → Result (List ℕ) CallFault
-numbers_of engine = each (number_in engine)
+abbrev pub numbers_of : LoadedPolicy → List PassedQuestion → Result (List ℕ) CallFault
+numbers_of loaded = each (number_in loaded)
 
 -- how a batch ends
 pub data BatchEnd : Type 0 where
@@ -50,15 +50,15 @@ abbrev pub IsUnwritten : List ℕ → List ℕ → ℕ → ℕ → Type 0
 IsUnwritten old new before after = (new ≡ old) × (after ≡ before)
 
 -- what the caller finds behind a batch that ended so
-abbrev pub BatchEnds : Result Engine FileFault → List PassedQuestion → List ℕ → List ℕ → ℕ → ℕ → BatchEnd → Type 0
-BatchEnds made questions old new before after all = (engine : Engine) × (made ≡ Ok engine) × (numbers_of engine questions ≡ Ok new) × (after ≡ before)
+abbrev pub BatchEnds : Result LoadedPolicy FileFault → List PassedQuestion → List ℕ → List ℕ → ℕ → ℕ → BatchEnd → Type 0
+BatchEnds made questions old new before after all = (loaded : LoadedPolicy) × (made ≡ Ok loaded) × (numbers_of loaded questions ≡ Ok new) × (after ≡ before)
 BatchEnds made questions old new before after (line number) = (made ≡ Err (bad_line number)) × (new ≡ old) × (after ≡ number)
 BatchEnds made questions old new before after (failed fault.Memory) = IsUnwritten old new before after
 BatchEnds made questions old new before after (failed other) =
-    (engine : Engine) × (made ≡ Ok engine) × (numbers_of engine questions ≡ Err other) × IsUnwritten old new before after
+    (loaded : LoadedPolicy) × (made ≡ Ok loaded) × (numbers_of loaded questions ≡ Err other) × IsUnwritten old new before after
 BatchEnds made questions old new before after uneven = (length old ≢ length questions) × IsUnwritten old new before after
 
 -- the status says how the batch ended, and the caller finds what then stands there
-abbrev pub IsBatch : Result Engine FileFault → List PassedQuestion → List ℕ → List ℕ → ℕ → ℕ → ℕ → Type 0
+abbrev pub IsBatch : Result LoadedPolicy FileFault → List PassedQuestion → List ℕ → List ℕ → ℕ → ℕ → ℕ → Type 0
 IsBatch made questions old new before after status =
     (end : BatchEnd) × (status ≡ batch_status end) × BatchEnds made questions old new before after end

@@ -25,9 +25,9 @@ use Rattle.kapi_loading.specs.declared.fault.StartError.{StartError}
 use Rattle.kapi_loading.specs.declared.fault.StartError.TheVariants as start
 use Rattle.kapi_paths.specs.Rights.{is_kind}
 use Rattle.kapi_engine.specs.Decisions.{missing_of}
-use Rattle.kapi_engine.specs.Engines.{engine_of}
+use Rattle.kapi_engine.specs.LoadedPolicies.{loaded_of}
 use Rattle.kapi_engine.specs.Paths.{IsPathsText}
-use Rattle.kapi_engine.specs.declared.engine.Engine.{Engine}
+use Rattle.kapi_engine.specs.declared.loaded_policy.LoadedPolicy.{LoadedPolicy}
 use Rattle.kapi_calls.specs.declared.fault.CallFault.{CallFault}
 use Rattle.kapi_calls.specs.declared.fault.CallFault.TheVariants as fault
 use Rattle.kapi_calls.specs.declared.passed.Call.{Call}
@@ -37,8 +37,8 @@ use Rattle.kapi_calls.specs.Given.{Given, bit}
 use Rattle.kapi_calls.specs.Questions.{identity_of, question_of, text_of, texts_of}
 
 -- a text, and whether the roles are settled
-abbrev pub settled_with : Engine → List ℕ → Given
-settled_with engine text = record { number = bit engine.settled; text = text }
+abbrev pub settled_with : LoadedPolicy → List ℕ → Given
+settled_with loaded text = record { number = bit loaded.settled; text = text }
 
 -- ---- who may do something
 
@@ -49,12 +49,12 @@ scope_of anywhere namespace (point.Resource p) =
     if anywhere then scope.Everywhere else (if length namespace == 0 then scope.Cluster else scope.Namespace namespace)
 
 -- who may do what is asked, whoever the user is
-abbrev pub who_of : Engine → Form → Bool → AccessQuestion → List ℕ
-who_of engine f anywhere asked =
-    who_text f engine.policy (record { scope = scope_of anywhere asked.namespace asked.point; point = asked.point })
+abbrev pub who_of : LoadedPolicy → Form → Bool → AccessQuestion → List ℕ
+who_of loaded f anywhere asked =
+    who_text f loaded.policy (record { scope = scope_of anywhere asked.namespace asked.point; point = asked.point })
 
-unfoldable pub who_given : Engine → Form → Bool → PassedQuestion → Result Given CallFault
-who_given engine f anywhere q = question_of q >>= λ asked. Ok (settled_with engine (who_of engine f anywhere asked))
+unfoldable pub who_given : LoadedPolicy → Form → Bool → PassedQuestion → Result Given CallFault
+who_given loaded f anywhere q = question_of q >>= λ asked. Ok (settled_with loaded (who_of loaded f anywhere asked))
 
 -- ---- what somebody has
 
@@ -63,16 +63,16 @@ abbrev pub within : List ℕ → Option (List ℕ)
 within namespace = if length namespace == 0 then None else Some namespace
 
 -- what the user has in the namespace, or everywhere if that is empty
-unfoldable pub what_given : Engine → Form → PassedQuestion → Result Given CallFault
-what_given engine f q =
+unfoldable pub what_given : LoadedPolicy → Form → PassedQuestion → Result Given CallFault
+what_given loaded f q =
     identity_of q >>= λ identity. text_of q.namespace.now >>= λ namespace.
-    Ok (settled_with engine (what_text f engine.policy (record { identity = identity; within = within namespace })))
+    Ok (settled_with loaded (what_text f loaded.policy (record { identity = identity; within = within namespace })))
 
 -- ---- risks and paths
 
 -- who may gain more than the policy gives
-abbrev pub risks_given : Engine → Form → Given
-risks_given engine f = settled_with engine (ways_text f (risks engine.policy) ++ settled_line f engine.settled)
+abbrev pub risks_given : LoadedPolicy → Form → Given
+risks_given loaded f = settled_with loaded (ways_text f (risks loaded.policy) ++ settled_line f loaded.settled)
 
 -- the form of a number
 abbrev pub form_of : ℕ → Result Form CallFault
@@ -91,15 +91,15 @@ unfoldable pub kinds_of : Call → Result (List (List ℕ)) CallFault
 kinds_of call = texts_of call.without.now >>= known_kinds
 
 -- some text of paths, if what is asked is texts and kinds
-unfoldable pub paths_given : List ℕ → Engine → Call → Result Given CallFault
-paths_given paths engine call =
-    form_of call.form >>= λ f. text_of call.other.now >>= λ to. kinds_of call >>= λ without. Ok (settled_with engine paths)
+unfoldable pub paths_given : List ℕ → LoadedPolicy → Call → Result Given CallFault
+paths_given paths loaded call =
+    form_of call.form >>= λ f. text_of call.other.now >>= λ to. kinds_of call >>= λ without. Ok (settled_with loaded paths)
 
 -- the text is that of paths, if the call has a form, a name and kinds
-abbrev pub ArePaths : List ℕ → Engine → Call → Type 0
-ArePaths paths engine call =
+abbrev pub ArePaths : List ℕ → LoadedPolicy → Call → Type 0
+ArePaths paths loaded call =
     (f : Form) (to : List ℕ) (without : List (List ℕ)) → form_of call.form ≡ Ok f → text_of call.other.now ≡ Ok to → kinds_of call ≡ Ok without
-    → IsPathsText engine f to without paths
+    → IsPathsText loaded f to without paths
 
 -- ---- what somebody lacks
 
@@ -126,15 +126,15 @@ missing_told (Some atoms) = Ok (lacking_told atoms)
 missing_told None = Err fault.Question
 
 -- what the user lacks of the role
-unfoldable pub missing_given : Engine → PassedQuestion → Result Given CallFault
-missing_given engine q =
+unfoldable pub missing_given : LoadedPolicy → PassedQuestion → Result Given CallFault
+missing_given loaded q =
     identity_of q >>= λ identity. text_of q.namespace.now >>= λ namespace. role_in q >>= λ role.
-    missing_told (missing_of engine.policy identity namespace role)
+    missing_told (missing_of loaded.policy identity namespace role)
 
 -- ---- what other objects give
 
 -- whether nobody gains and both policies are settled, and who gains what
-abbrev pub gains_told : Form → Engine → Engine → Given
+abbrev pub gains_told : Form → LoadedPolicy → LoadedPolicy → Given
 gains_told f before after = record {
   number = bit (length (gained whose.Any before.policy after.policy) == 0 && before.settled && after.settled);
   text = gains_text f shown.Rules (gained whose.Any before.policy after.policy);
@@ -145,26 +145,26 @@ abbrev pub other_fault : StartError → CallFault
 other_fault (start.Line number) = fault.Line number
 other_fault start.Memory = fault.Memory
 
-abbrev pub gains_over : Engine → Form → Result Engine FileFault → Result Given CallFault
-gains_over engine f (Ok after) = Ok (gains_told f engine after)
-gains_over engine f (Err (bad_line number)) = Err (fault.Line number)
+abbrev pub gains_over : LoadedPolicy → Form → Result LoadedPolicy FileFault → Result Given CallFault
+gains_over loaded f (Ok after) = Ok (gains_told f loaded after)
+gains_over loaded f (Err (bad_line number)) = Err (fault.Line number)
 
 -- what the policy of the objects gives that this one does not
-unfoldable pub gains_given : Engine → Form → List ℕ → Result Given CallFault
-gains_given engine f objects = gains_over engine f (engine_of objects)
+unfoldable pub gains_given : LoadedPolicy → Form → List ℕ → Result Given CallFault
+gains_given loaded f objects = gains_over loaded f (loaded_of objects)
 
 -- ---- by what is wanted
 
 -- the text that is wanted in a form, of those but paths
-abbrev pub listed_in : Engine → Call → Form → Result Given CallFault
-listed_in engine call f =
-    if call.wants == 3 then who_given engine f false call.question
-    else (if call.wants == 4 then who_given engine f true call.question
-    else (if call.wants == 5 then what_given engine f call.question
-    else (if call.wants == 6 then Ok (risks_given engine f)
-    else (if call.wants == 8 then missing_given engine call.question
-    else (if call.wants == 9 then gains_given engine f call.other.now
+abbrev pub listed_in : LoadedPolicy → Call → Form → Result Given CallFault
+listed_in loaded call f =
+    if call.wants == 3 then who_given loaded f false call.question
+    else (if call.wants == 4 then who_given loaded f true call.question
+    else (if call.wants == 5 then what_given loaded f call.question
+    else (if call.wants == 6 then Ok (risks_given loaded f)
+    else (if call.wants == 8 then missing_given loaded call.question
+    else (if call.wants == 9 then gains_given loaded f call.other.now
     else Err fault.Question)))))
 
-unfoldable pub listed : Engine → Call → Result Given CallFault
-listed engine call = form_of call.form >>= λ f. listed_in engine call f
+unfoldable pub listed : LoadedPolicy → Call → Result Given CallFault
+listed loaded call = form_of call.form >>= λ f. listed_in loaded call f

@@ -13,7 +13,7 @@ use crate::fault::CallFault;
 use crate::listing::{list, paths, settled_with};
 use crate::passed::Call;
 use crate::reading::{AccessQuestion, read_question};
-use kapi_engine::{Engine, decision_line};
+use kapi_engine::{LoadedPolicy, decision_line};
 use kapi_policy::Decision;
 use kapi_text::Memory;
 use std::alloc::Global;
@@ -45,29 +45,29 @@ fn number(decision: &Decision<'_>) -> u32
 }
 
 /// The number of what is decided.
-pub fn number_decided(engine: &Engine, asked: &AccessQuestion) -> u32
-    ensures { result ≡ number_of (decided_of engine.now asked.now) }
+pub fn number_decided(loaded: &LoadedPolicy, asked: &AccessQuestion) -> u32
+    ensures { result ≡ number_of (decided_of loaded.now asked.now) }
 {
     let namespace = asked.namespace.as_str();
-    number(&engine.decide(&asked.identity, namespace, &asked.point))
+    number(&loaded.decide(&asked.identity, namespace, &asked.point))
 }
 
 /// What is decided, without a text.
-fn decided(engine: &Engine, asked: &AccessQuestion, alloc: Global) -> Found
-    ensures { told result ≡ number_alone (decided_of engine.now asked.now) }
+fn decided(loaded: &LoadedPolicy, asked: &AccessQuestion, alloc: Global) -> Found
+    ensures { told result ≡ number_alone (decided_of loaded.now asked.now) }
 {
     Found {
-        number: number_decided(engine, asked),
+        number: number_decided(loaded, asked),
         text: Vec::new(alloc),
     }
 }
 
 /// What is decided, and its line.
-fn with_line(alloc: Global, engine: &Engine, asked: &AccessQuestion) -> Result<Found, Memory>
-    ensures { IfOk result (λ g. told g ≡ told_with_line (decided_of engine.now asked.now)) }
+fn with_line(alloc: Global, loaded: &LoadedPolicy, asked: &AccessQuestion) -> Result<Found, Memory>
+    ensures { IfOk result (λ g. told g ≡ told_with_line (decided_of loaded.now asked.now)) }
 {
     let namespace = asked.namespace.as_str();
-    let decision = engine.decide(&asked.identity, namespace, &asked.point);
+    let decision = loaded.decide(&asked.identity, namespace, &asked.point);
     Ok(Found {
         number: number(&decision),
         text: decision_line(alloc, &decision)?.into_vec(),
@@ -76,21 +76,21 @@ fn with_line(alloc: Global, engine: &Engine, asked: &AccessQuestion) -> Result<F
 
 /// What is answered.
 #[tactic(auto, unfolding(crate::specs::Answers::given_of))]
-fn find(alloc: Global, engine: &Engine, call: &Call<'_>) -> Result<Found, CallFault>
-    ensures { (paths : List ℕ) × Gives fault_told told result (given_of paths engine.now call.now) × IfOk result (λ _. call.now.wants ≡ 7 → ArePaths paths engine.now call.now) }
+fn find(alloc: Global, loaded: &LoadedPolicy, call: &Call<'_>) -> Result<Found, CallFault>
+    ensures { (paths : List ℕ) × Gives fault_told told result (given_of paths loaded.now call.now) × IfOk result (λ _. call.now.wants ≡ 7 → ArePaths paths loaded.now call.now) }
 {
     match call.wants {
-        0 => Ok(settled_with(engine, Vec::new(alloc))),
+        0 => Ok(settled_with(loaded, Vec::new(alloc))),
         1 => {
             let asked = read_question(alloc, &call.question)?;
-            Ok(decided(engine, &asked, alloc))
+            Ok(decided(loaded, &asked, alloc))
         }
         2 => {
             let asked = read_question(alloc, &call.question)?;
-            Ok(with_line(alloc, engine, &asked)?)
+            Ok(with_line(alloc, loaded, &asked)?)
         }
-        7 => paths(alloc, engine, call),
-        _ => list(alloc, engine, call),
+        7 => paths(alloc, loaded, call),
+        _ => list(alloc, loaded, call),
     }
 }
 
@@ -123,14 +123,14 @@ fn refused(fault: CallFault, answer: &mut Answer) -> u32
 /// small, what it needs, and where other objects are not loaded, the line.
 pub fn answer_call(
     alloc: Global,
-    engine: &Engine,
+    loaded: &LoadedPolicy,
     call: &Call<'_>,
     answer: &mut Answer,
     room: &mut [u8],
 ) -> u32
-    ensures { IsAnswered engine.now call.now answer.old answer.new room.old room.new result }
+    ensures { IsAnswered loaded.now call.now answer.old answer.new room.old room.new result }
 {
-    match find(alloc, engine, call) {
+    match find(alloc, loaded, call) {
         Ok(found) => { if write(&found, answer, room) { 0 } else { 5 } }
         Err(fault) => refused(fault, answer),
     }

@@ -1,7 +1,7 @@
 //! Objects and questions in, decisions out.
 ghost use Rattle.std.specs.Prelude.{◌≡◌, ◌++◌, ◌∷◌, [], IfOk, OnOk, length};
 ghost use Rattle.kapi_text.specs.Gives.{Gives};
-ghost use Rattle.kapi_engine.specs.Engines.{engine_of};
+ghost use Rattle.kapi_engine.specs.LoadedPolicies.{loaded_of};
 ghost use Rattle.kapi_calls.specs.Batches.{IsBatch, batch_status, end_of, line_after, number_in, numbers_of};
 ghost use Rattle.kapi_calls.specs.Faults.{fault_told};
 
@@ -9,16 +9,20 @@ use crate::answering::number_decided;
 use crate::fault::CallFault;
 use crate::passed::PassedQuestion;
 use crate::reading::read_question;
-use kapi_engine::{Engine, StartError, load};
+use kapi_engine::{LoadedPolicy, StartError, load};
 use kapi_text::Memory;
 use std::alloc::Global;
 
 /// The number of what is decided of a question.
-fn number(alloc: Global, engine: &Engine, passed: &PassedQuestion<'_>) -> Result<u32, CallFault>
-    ensures { Gives fault_told (λ n. n) result (number_in engine.now passed.now) }
+fn number(
+    alloc: Global,
+    loaded: &LoadedPolicy,
+    passed: &PassedQuestion<'_>,
+) -> Result<u32, CallFault>
+    ensures { Gives fault_told (λ n. n) result (number_in loaded.now passed.now) }
 {
     let asked = read_question(alloc, passed)?;
-    Ok(number_decided(engine, &asked))
+    Ok(number_decided(loaded, &asked))
 }
 
 fn push(numbers: &mut Vec<u32>, number: u32) -> Result<(), Memory>
@@ -31,15 +35,15 @@ fn push(numbers: &mut Vec<u32>, number: u32) -> Result<(), Memory>
 /// The numbers of all questions, in their order.
 fn numbers(
     alloc: Global,
-    engine: &Engine,
+    loaded: &LoadedPolicy,
     passed: &[PassedQuestion<'_>],
 ) -> Result<Vec<u32>, CallFault>
-    ensures numbers { Gives fault_told (λ v. v.items) result (numbers_of engine.now passed.now) }
+    ensures numbers { Gives fault_told (λ v. v.items) result (numbers_of loaded.now passed.now) }
     ensures len { IfOk result (λ v. length v.items ≡ length passed.now) }
 {
     let mut numbers = Vec::with_capacity(alloc, passed.len())?;
     for question in passed {
-        match number(alloc, engine, question) {
+        match number(alloc, loaded, question) {
             Ok(found) => push(&mut numbers, found)?,
             Err(fault) => return Err(fault),
         }
@@ -70,16 +74,16 @@ pub fn decide_batch(
     decisions: &mut [u32],
     line: &mut usize,
 ) -> u32
-    ensures { IsBatch (engine_of objects.now) questions.now decisions.old decisions.new line.old line.new result }
+    ensures { IsBatch (loaded_of objects.now) questions.now decisions.old decisions.new line.old line.new result }
 {
     if decisions.len() != questions.len() {
         return 5;
     }
-    let engine = match load(alloc, objects) {
-        Ok(engine) => engine,
+    let loaded = match load(alloc, objects) {
+        Ok(loaded) => loaded,
         Err(fault) => return refused(fault, line),
     };
-    match numbers(alloc, &engine, questions) {
+    match numbers(alloc, &loaded, questions) {
         Ok(found) => {
             decisions.copy_from_slice(found.as_slice());
             0

@@ -13,7 +13,7 @@ use crate::fault::CallFault;
 use crate::passed::{Call, PassedQuestion};
 use crate::reading::{read_identity, read_question, read_text, read_texts, text_in};
 use kapi_engine::{
-    Engine, Form, Holder, Identities, Scope, Shown, StartError, Wanted, compare, load,
+    Form, Holder, Identities, LoadedPolicy, Scope, Shown, StartError, Wanted, compare, load,
 };
 use kapi_model::{RoleKind, RoleRef};
 use kapi_paths::is_kind;
@@ -23,11 +23,11 @@ use kapi_text::{Memory, Sequence, Text};
 use std::alloc::Global;
 
 /// A text, and whether the roles are settled.
-pub fn settled_with(engine: &Engine, text: Vec<u8>) -> Found
-    ensures { told result ≡ lists.settled_with engine.now text.items }
+pub fn settled_with(loaded: &LoadedPolicy, text: Vec<u8>) -> Found
+    ensures { told result ≡ lists.settled_with loaded.now text.items }
 {
     Found {
-        number: u32::from(engine.settled),
+        number: u32::from(loaded.settled),
         text,
     }
 }
@@ -56,12 +56,12 @@ fn scope_of(anywhere: bool, namespace: Text, point: &Point) -> Scope
 #[tactic(auto, unfolding(crate::specs::Lists::who_given))]
 fn who(
     alloc: Global,
-    engine: &Engine,
+    loaded: &LoadedPolicy,
     form: Form,
     anywhere: bool,
     passed: &PassedQuestion<'_>,
 ) -> Result<Found, CallFault>
-    ensures { Gives fault_told told result (lists.who_given engine.now form anywhere passed.now) }
+    ensures { Gives fault_told told result (lists.who_given loaded.now form anywhere passed.now) }
 {
     let asked = read_question(alloc, passed)?;
     let scope = scope_of(anywhere, asked.namespace, &asked.point);
@@ -69,7 +69,7 @@ fn who(
         scope,
         point: asked.point,
     };
-    Ok(settled_with(engine, engine.who(alloc, form, &wanted)?))
+    Ok(settled_with(loaded, loaded.who(alloc, form, &wanted)?))
 }
 
 // ---- what somebody has
@@ -88,11 +88,11 @@ fn within(namespace: Text) -> Option<Text>
 #[tactic(auto, unfolding(crate::specs::Lists::what_given))]
 fn what(
     alloc: Global,
-    engine: &Engine,
+    loaded: &LoadedPolicy,
     form: Form,
     passed: &PassedQuestion<'_>,
 ) -> Result<Found, CallFault>
-    ensures { Gives fault_told told result (lists.what_given engine.now form passed.now) }
+    ensures { Gives fault_told told result (lists.what_given loaded.now form passed.now) }
 {
     let identity = read_identity(alloc, passed)?;
     let namespace = read_text(alloc, passed.namespace)?;
@@ -100,16 +100,16 @@ fn what(
         identity,
         within: within(namespace),
     };
-    Ok(settled_with(engine, engine.what(alloc, form, &holder)?))
+    Ok(settled_with(loaded, loaded.what(alloc, form, &holder)?))
 }
 
 // ---- risks and paths
 
 /// Who may gain more than the policy gives.
-fn risks(alloc: Global, engine: &Engine, form: Form) -> Result<Found, Memory>
-    ensures { IfOk result (λ g. told g ≡ lists.risks_given engine.now form) }
+fn risks(alloc: Global, loaded: &LoadedPolicy, form: Form) -> Result<Found, Memory>
+    ensures { IfOk result (λ g. told g ≡ lists.risks_given loaded.now form) }
 {
-    Ok(settled_with(engine, engine.risks(alloc, form)?))
+    Ok(settled_with(loaded, loaded.risks(alloc, form)?))
 }
 
 fn are_kinds(words: &[Text]) -> bool
@@ -133,14 +133,14 @@ fn read_kinds(alloc: Global, call: &Call<'_>) -> Result<Sequence<Text>, CallFaul
 
 /// Who can become whom.
 #[tactic(auto, unfolding(crate::specs::Lists::paths_given))]
-pub fn paths(alloc: Global, engine: &Engine, call: &Call<'_>) -> Result<Found, CallFault>
-    ensures { (text : List ℕ) × Gives fault_told told result (lists.paths_given text engine.now call.now) × IfOk result (λ _. lists.ArePaths text engine.now call.now) }
+pub fn paths(alloc: Global, loaded: &LoadedPolicy, call: &Call<'_>) -> Result<Found, CallFault>
+    ensures { (text : List ℕ) × Gives fault_told told result (lists.paths_given text loaded.now call.now) × IfOk result (λ _. lists.ArePaths text loaded.now call.now) }
 {
     let form = form_of(call.form)?;
     let to = text_in(call.other)?;
     let without = read_kinds(alloc, call)?;
-    let text = engine.paths(alloc, form, to, without.as_slice())?;
-    Ok(settled_with(engine, text))
+    let text = loaded.paths(alloc, form, to, without.as_slice())?;
+    Ok(settled_with(loaded, text))
 }
 
 // ---- what somebody lacks
@@ -189,13 +189,17 @@ fn role_in(alloc: Global, passed: &PassedQuestion<'_>) -> Result<RoleRef, CallFa
 
 /// What the user lacks of the role.
 #[tactic(auto, unfolding(crate::specs::Lists::missing_given))]
-fn missing(alloc: Global, engine: &Engine, passed: &PassedQuestion<'_>) -> Result<Found, CallFault>
-    ensures { Gives fault_told told result (lists.missing_given engine.now passed.now) }
+fn missing(
+    alloc: Global,
+    loaded: &LoadedPolicy,
+    passed: &PassedQuestion<'_>,
+) -> Result<Found, CallFault>
+    ensures { Gives fault_told told result (lists.missing_given loaded.now passed.now) }
 {
     let identity = read_identity(alloc, passed)?;
     let namespace = read_text(alloc, passed.namespace)?;
     let role = role_in(alloc, passed)?;
-    match engine.missing(alloc, &identity, namespace.as_str(), &role)? {
+    match loaded.missing(alloc, &identity, namespace.as_str(), &role)? {
         Some(atoms) => Ok(lacking(alloc, atoms.as_slice())?),
         None => Err(CallFault::Question),
     }
@@ -204,11 +208,16 @@ fn missing(alloc: Global, engine: &Engine, passed: &PassedQuestion<'_>) -> Resul
 // ---- what other objects give
 
 /// What the later policy gives that the earlier one does not.
-fn gains_over(alloc: Global, engine: &Engine, form: Form, after: &Engine) -> Result<Found, Memory>
-    ensures { IfOk result (λ g. told g ≡ lists.gains_told form engine.now after.now) }
+fn gains_over(
+    alloc: Global,
+    loaded: &LoadedPolicy,
+    form: Form,
+    after: &LoadedPolicy,
+) -> Result<Found, Memory>
+    ensures { IfOk result (λ g. told g ≡ lists.gains_told form loaded.now after.now) }
 {
-    let compared = compare(alloc, form, Shown::Rules, Identities::Any, engine, after)?;
-    let is_none = !compared.gains && engine.settled && after.settled;
+    let compared = compare(alloc, form, Shown::Rules, Identities::Any, loaded, after)?;
+    let is_none = !compared.gains && loaded.settled && after.settled;
     Ok(Found {
         number: u32::from(is_none),
         text: compared.text,
@@ -227,11 +236,16 @@ fn other_fault(fault: StartError) -> CallFault
 
 /// What the policy of the objects gives that this one does not.
 #[tactic(auto, unfolding(crate::specs::Lists::gains_given))]
-fn gains(alloc: Global, engine: &Engine, form: Form, objects: &[u8]) -> Result<Found, CallFault>
-    ensures { Gives fault_told told result (lists.gains_given engine.now form objects.now) }
+fn gains(
+    alloc: Global,
+    loaded: &LoadedPolicy,
+    form: Form,
+    objects: &[u8],
+) -> Result<Found, CallFault>
+    ensures { Gives fault_told told result (lists.gains_given loaded.now form objects.now) }
 {
     match load(alloc, objects) {
-        Ok(after) => Ok(gains_over(alloc, engine, form, &after)?),
+        Ok(after) => Ok(gains_over(alloc, loaded, form, &after)?),
         Err(fault) => Err(other_fault(fault)),
     }
 }
@@ -252,17 +266,17 @@ fn form_of(number: u32) -> Result<Form, CallFault>
 
 /// The text that is wanted, of those but paths.
 #[tactic(auto, unfolding(crate::specs::Lists::listed))]
-pub fn list(alloc: Global, engine: &Engine, call: &Call<'_>) -> Result<Found, CallFault>
-    ensures { Gives fault_told told result (lists.listed engine.now call.now) }
+pub fn list(alloc: Global, loaded: &LoadedPolicy, call: &Call<'_>) -> Result<Found, CallFault>
+    ensures { Gives fault_told told result (lists.listed loaded.now call.now) }
 {
     let form = form_of(call.form)?;
     match call.wants {
-        3 => who(alloc, engine, form, false, &call.question),
-        4 => who(alloc, engine, form, true, &call.question),
-        5 => what(alloc, engine, form, &call.question),
-        6 => Ok(risks(alloc, engine, form)?),
-        8 => missing(alloc, engine, &call.question),
-        9 => gains(alloc, engine, form, call.other),
+        3 => who(alloc, loaded, form, false, &call.question),
+        4 => who(alloc, loaded, form, true, &call.question),
+        5 => what(alloc, loaded, form, &call.question),
+        6 => Ok(risks(alloc, loaded, form)?),
+        8 => missing(alloc, loaded, &call.question),
+        9 => gains(alloc, loaded, form, call.other),
         _ => Err(CallFault::Question),
     }
 }

@@ -4,34 +4,34 @@ ghost use Rattle.kapi_calls.specs.Answers.{IsAnswered};
 
 use crate::answering::{Answer, answer_call};
 use crate::passed::Call;
-use kapi_engine::Engine;
+use kapi_engine::LoadedPolicy;
 use kapi_text::Memory;
 use std::alloc::Global;
 use std::marker::Model;
 use std::sync::Arc;
 
-/// One of those who hold a policy, each maybe in a thread of its own. Contracts see its engine.
+/// One of those who hold a policy, each maybe in a thread of its own. Contracts see its loaded policy.
 #[derive(Drop)]
 pub struct Shared {
-    engine: Arc<Engine>,
+    loaded: Arc<LoadedPolicy>,
 }
 
 impl Model for Shared {
     ghost use Rattle.std.specs.Arc.{arc_value};
-    ghost use Rattle.kapi_engine.specs.declared.engine.Engine.{Engine};
+    ghost use Rattle.kapi_engine.specs.declared.loaded_policy.LoadedPolicy.{LoadedPolicy};
 
-    ghost Value = { Engine };
+    ghost Value = { LoadedPolicy };
 
-    ghost view = { λ s. arc_value s.engine };
+    ghost view = { λ s. arc_value s.loaded };
 }
 
 impl Shared {
     /// The first holder.
-    pub fn new(alloc: Global, engine: Engine) -> Result<Shared, Memory>
-        ensures { IfOk result (λ s. s ≡ engine) }
+    pub fn new(alloc: Global, loaded: LoadedPolicy) -> Result<Shared, Memory>
+        ensures { IfOk result (λ s. s ≡ loaded) }
     {
         Ok(Shared {
-            engine: Arc::new(alloc, engine)?,
+            loaded: Arc::new(alloc, loaded)?,
         })
     }
 }
@@ -47,8 +47,8 @@ fn sendable<T: Send>(value: T) -> T
 pub fn share(holder: &Shared) -> Result<Shared, Memory>
     ensures { IfOk result (λ s. s ≡ holder.now) }
 {
-    let engine = holder.engine.clone()?;
-    Ok(sendable(Shared { engine }))
+    let loaded = holder.loaded.clone()?;
+    Ok(sendable(Shared { loaded }))
 }
 
 /// Answers a call to a holder.
@@ -61,5 +61,5 @@ pub fn answer_shared(
 ) -> u32
     ensures { IsAnswered holder.now call.now answer.old answer.new room.old room.new result }
 {
-    answer_call(alloc, &holder.engine, call, answer, room)
+    answer_call(alloc, &holder.loaded, call, answer, room)
 }

@@ -9,15 +9,15 @@ use Rattle.kapi_access.specs.Lines as lined
 use Rattle.kapi_access.specs.Lines.{LineError}
 use Rattle.kapi_access.specs.declared.lines.LineFault.{LineFault}
 use Rattle.kapi_access.specs.declared.lines.LineFault.TheVariants as line_fault
-use Rattle.kapi_engine.specs.declared.engine.Engine.{Engine}
+use Rattle.kapi_engine.specs.declared.loaded_policy.LoadedPolicy.{LoadedPolicy}
 use Rattle.kapi_commands.specs.Policies.{FilesError, as_first, as_question, as_second, fault_told, first_fault, question_fault, second_fault}
 use Rattle.kapi_commands.specs.declared.policies.FilesFault.{FilesFault}
 
-pub fault_first : (e : StartError) (given : Result Engine FileFault) → Fails (loading.fault_told e) given → Fails (fault_told (first_fault e)) (as_first given)
+pub fault_first : (e : StartError) (given : Result LoadedPolicy FileFault) → Fails (loading.fault_told e) given → Fails (fault_told (first_fault e)) (as_first given)
 fault_first (start.Line n) given h = ap as_first h
 fault_first start.Memory given h = tt
 
-pub fault_second : (e : StartError) (given : Result Engine FileFault) → Fails (loading.fault_told e) given → Fails (fault_told (second_fault e)) (as_second given)
+pub fault_second : (e : StartError) (given : Result LoadedPolicy FileFault) → Fails (loading.fault_told e) given → Fails (fault_told (second_fault e)) (as_second given)
 fault_second (start.Line n) given h = ap as_second h
 fault_second start.Memory given h = tt
 

@@ -3,9 +3,9 @@ use Rattle.std.specs.Prelude.{◌≡◌, ℕ, ◌==◌, not, Bool, List, ◌++�
 use Rattle.kapi_text.specs.Gives.{◌>>=◌}
 use Rattle.kapi_lines.specs.Lines.{lines_of}
 use Rattle.kapi_loading.specs.Faults.{FileFault, bad_line}
-use Rattle.kapi_engine.specs.Engines.{engine_of}
+use Rattle.kapi_engine.specs.LoadedPolicies.{loaded_of}
 use Rattle.kapi_engine.specs.Paths.{IsPathsText}
-use Rattle.kapi_engine.specs.declared.engine.Engine.{Engine}
+use Rattle.kapi_engine.specs.declared.loaded_policy.LoadedPolicy.{LoadedPolicy}
 use Rattle.kapi_access.specs.Gained.{gained}
 use Rattle.kapi_access.specs.declared.identities.Identities.{Identities}
 use Rattle.kapi_access.specs.Risks.{risks}
@@ -56,13 +56,13 @@ question_fault lined.Memory = fault.Memory
 
 -- ---- engines
 
--- the engine of the first file
-abbrev pub as_first : Result Engine FileFault → Result Engine FilesError
+-- the loaded policy of the first file
+abbrev pub as_first : Result LoadedPolicy FileFault → Result LoadedPolicy FilesError
 as_first (Ok e) = Ok e
 as_first (Err (bad_line n)) = Err (first_line n)
 
--- the engine of the second file
-abbrev pub as_second : Result Engine FileFault → Result Engine FilesError
+-- the loaded policy of the second file
+abbrev pub as_second : Result LoadedPolicy FileFault → Result LoadedPolicy FilesError
 as_second (Ok e) = Ok e
 as_second (Err (bad_line n)) = Err (second_line n)
 
@@ -76,7 +76,7 @@ pub record Comparison : Type 0 where
   pub after_settled : Bool
 
 -- what one policy allows those identities that another did not
-abbrev pub comparison : Form → Shown → Identities → Engine → Engine → Comparison
+abbrev pub comparison : Form → Shown → Identities → LoadedPolicy → LoadedPolicy → Comparison
 comparison f s who b a = record {
   text = gains_text f s (gained who b.policy a.policy);
   gains = not (length (gained who b.policy a.policy) == 0);
@@ -85,12 +85,12 @@ comparison f s who b a = record {
 }
 
 -- the comparison of a policy with that of a second file
-abbrev pub compared_to : Form → Shown → Identities → Engine → Result Engine FileFault → Result Comparison FilesError
+abbrev pub compared_to : Form → Shown → Identities → LoadedPolicy → Result LoadedPolicy FileFault → Result Comparison FilesError
 compared_to f s who b second = as_second second >>= λ a. Ok (comparison f s who b a)
 
 -- the comparison of the policies in two files
 unfoldable pub compare_files : Form → Shown → Identities → List ℕ → List ℕ → Result Comparison FilesError
-compare_files f s who before after = as_first (engine_of before) >>= λ b. compared_to f s who b (engine_of after)
+compare_files f s who before after = as_first (loaded_of before) >>= λ b. compared_to f s who b (loaded_of after)
 
 -- a comparison, as data
 abbrev pub compared_told : Compared → Comparison
@@ -111,12 +111,12 @@ abbrev pub answered_told : Answered → Reply
 answered_told a = record { text = a.text.items; settled = a.settled }
 
 -- who may do what is asked, by a policy
-abbrev pub who_on : Form → Wanted → Engine → Reply
+abbrev pub who_on : Form → Wanted → LoadedPolicy → Reply
 who_on f w e = record { text = who_text f e.policy w; settled = e.settled }
 
 -- who may do what is asked, by the policy in a file
 unfoldable pub who_wanted : Form → List ℕ → Wanted → Result Reply FilesError
-who_wanted f objects w = as_first (engine_of objects) >>= λ e. Ok (who_on f w e)
+who_wanted f objects w = as_first (loaded_of objects) >>= λ e. Ok (who_on f w e)
 
 -- the line that is no question
 abbrev pub as_question : Result (List ℕ) LineError → Result (List ℕ) FilesError
@@ -124,33 +124,33 @@ as_question (Ok text) = Ok text
 as_question (Err (no_question n)) = Err (question_line n)
 
 -- who may do what each line of a file asks, by a policy
-abbrev pub lines_on : Form → List ℕ → Engine → Result Reply FilesError
+abbrev pub lines_on : Form → List ℕ → LoadedPolicy → Result Reply FilesError
 lines_on f questions e = as_question (answered_lines f e.policy (lines_of questions)) >>= λ text. Ok (record { text = text; settled = e.settled })
 
 -- who may do what each line of a file asks, by the policy in another file
 unfoldable pub who_file : Form → List ℕ → List ℕ → Result Reply FilesError
-who_file f objects questions = as_first (engine_of objects) >>= λ e. lines_on f questions e
+who_file f objects questions = as_first (loaded_of objects) >>= λ e. lines_on f questions e
 
 -- what a user has by a policy
-abbrev pub what_on : Form → Holder → Engine → Reply
+abbrev pub what_on : Form → Holder → LoadedPolicy → Reply
 what_on f h e = record { text = what_text f e.policy h; settled = e.settled }
 
 -- what a user has by the policy in a file
 unfoldable pub what_file : Form → List ℕ → Holder → Result Reply FilesError
-what_file f objects h = as_first (engine_of objects) >>= λ e. Ok (what_on f h e)
+what_file f objects h = as_first (loaded_of objects) >>= λ e. Ok (what_on f h e)
 
 -- who may gain more than a policy grants, and what holds of all others
-abbrev pub risks_on : Form → Engine → Reply
+abbrev pub risks_on : Form → LoadedPolicy → Reply
 risks_on f e = record { text = ways_text f (risks e.policy) ++ settled_line f e.settled; settled = e.settled }
 
 -- who may gain more than the policy of a file grants, and what holds of all others
 unfoldable pub risks_file : Form → List ℕ → Result Reply FilesError
-risks_file f objects = as_first (engine_of objects) >>= λ e. Ok (risks_on f e)
+risks_file f objects = as_first (loaded_of objects) >>= λ e. Ok (risks_on f e)
 
 -- whether the roles of the policy of a file are settled
 unfoldable pub settled_file : List ℕ → Result Bool FilesError
-settled_file objects = as_first (engine_of objects) >>= λ e. Ok e.settled
+settled_file objects = as_first (loaded_of objects) >>= λ e. Ok e.settled
 
 -- the text is that of who can become whom by the policy that a file is
 abbrev pub ArePaths : PathsWords → List ℕ → List ℕ → Type 0
-ArePaths asked objects text = (e : Engine) → as_first (engine_of objects) ≡ Ok e → IsPathsText e asked.asking.form asked.to asked.without text
+ArePaths asked objects text = (e : LoadedPolicy) → as_first (loaded_of objects) ≡ Ok e → IsPathsText e asked.asking.form asked.to asked.without text

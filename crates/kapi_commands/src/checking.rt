@@ -66,8 +66,8 @@ pub fn run_check<R: Files + Input + Print + Eprint + AllocGlobal + Clone + Drop>
     let Some(policy) = read_policy(rt, asking.policy.as_str(), &asking.reading)? else {
         return Ok(Ending::Stopped);
     };
-    let engine = match load_first(rt.alloc(), policy.lines()) {
-        Ok(engine) => engine,
+    let loaded = match load_first(rt.alloc(), policy.lines()) {
+        Ok(loaded) => loaded,
         Err(FilesFault::Memory) => {
             eprintln!(rt; "out of memory")?;
             return Ok(Ending::Stopped);
@@ -87,13 +87,13 @@ pub fn run_check<R: Files + Input + Print + Eprint + AllocGlobal + Clone + Drop>
     let findings = findings(
         rt.alloc(),
         &policy,
-        &engine.policy,
+        &loaded.policy,
         accounts,
         table.as_slice(),
     )?;
     let text = text_of(rt.alloc(), asking.form, &policy, findings.as_slice())?;
     print(rt, text.as_slice())?;
-    tell_unsettled(rt, asking.policy.as_str(), engine.settled)?;
+    tell_unsettled(rt, asking.policy.as_str(), loaded.settled)?;
     let doubted = asking.reading.strict && !policy.has_policy();
     if !policy.has_policy() {
         drop(doubts_of(rt, asking.policy.as_str(), &policy)?);
@@ -103,7 +103,7 @@ pub fn run_check<R: Files + Input + Print + Eprint + AllocGlobal + Clone + Drop>
     } else {
         Ending::Dangles
     };
-    Ok(ending.or_doubted(doubted).or_unsettled(engine.settled))
+    Ok(ending.or_doubted(doubted).or_unsettled(loaded.settled))
 }
 
 /// The findings as they are printed.

@@ -53,13 +53,13 @@ pub fn audit_log<R: Files + Input + Print + Eprint + AllocGlobal + Clock + Clone
             return Ok(Ending::Stopped);
         }
     };
-    let Ok(engine) = load_first(rt.alloc(), policy.lines()) else {
+    let Ok(loaded) = load_first(rt.alloc(), policy.lines()) else {
         tell_refused(rt, &policy)?;
         return Ok(Ending::Stopped);
     };
-    let judged = judge(rt.alloc(), files.form, &engine.policy, logged.as_slice())?;
+    let judged = judge(rt.alloc(), files.form, &loaded.policy, logged.as_slice())?;
     print(rt, judged.text.as_slice())?;
-    tell_unsettled(rt, name, engine.settled)?;
+    tell_unsettled(rt, name, loaded.settled)?;
     let doubts = doubts_of(rt, name, &policy)?;
     let ending = if judged.differ {
         Ending::Differing
@@ -67,7 +67,7 @@ pub fn audit_log<R: Files + Input + Print + Eprint + AllocGlobal + Clock + Clone
         Ending::Done
     };
     let doubted = reading.strict && doubts.are_some();
-    Ok(ending.or_doubted(doubted).or_unsettled(engine.settled))
+    Ok(ending.or_doubted(doubted).or_unsettled(loaded.settled))
 }
 
 /// The requests in the lines of a log, or the number of the first line that is no event. On a terminal, progress is

@@ -3,14 +3,14 @@ ghost use Rattle.std.specs.Prelude.{◌≡◌, Result, IfOk};
 ghost use Rattle.kapi_text.specs.Gives.{Gives};
 ghost use Rattle.kapi_loading.specs.Faults as loading;
 ghost use Rattle.kapi_loading.specs.Faults.{FileFault};
-ghost use Rattle.kapi_engine.specs.Engines.{engine_of};
-ghost use Rattle.kapi_engine.specs.declared.engine.Engine.{Engine as AnEngine};
+ghost use Rattle.kapi_engine.specs.LoadedPolicies.{loaded_of};
+ghost use Rattle.kapi_engine.specs.declared.loaded_policy.LoadedPolicy.{LoadedPolicy as ALoadedPolicy};
 ghost use Rattle.kapi_commands.specs.Policies as files;
 ghost use Rattle.kapi_commands.specs.Policies.{answered_told, as_first, compared_to, compared_told, comparison, fault_told};
 
 use kapi_command_line::PathsWords;
 use kapi_engine::{
-    Engine, Form, Holder, Identities, LineFault, Shown, StartError, Wanted, compare, load,
+    Form, Holder, Identities, LineFault, LoadedPolicy, Shown, StartError, Wanted, compare, load,
 };
 use kapi_text::Memory;
 use std::alloc::Global;
@@ -80,11 +80,11 @@ fn second_fault(error: StartError) -> FilesFault
 ///
 /// # Errors
 /// `First` at the first line that is not loaded, `Memory` if an allocation fails.
-pub fn load_first(alloc: Global, objects: &[u8]) -> Result<Engine, FilesFault>
-    ensures { Gives fault_told (λ e. e) result (as_first (engine_of objects.now)) }
+pub fn load_first(alloc: Global, objects: &[u8]) -> Result<LoadedPolicy, FilesFault>
+    ensures { Gives fault_told (λ e. e) result (as_first (loaded_of objects.now)) }
 {
     match load(alloc, objects) {
-        Ok(engine) => Ok(engine),
+        Ok(loaded) => Ok(loaded),
         Err(error) => Err(first_fault(error)),
     }
 }
@@ -97,17 +97,20 @@ fn load_both<R: Threads + Sync>(
     rt: &R,
     before: &[u8],
     after: &[u8],
-) -> (Result<Engine, StartError>, Result<Engine, StartError>)
-    ensures before { Gives loading.fault_told (λ e. e) result.0 (engine_of before.now) }
-    ensures after { Gives loading.fault_told (λ e. e) result.1 (engine_of after.now) }
+) -> (
+    Result<LoadedPolicy, StartError>,
+    Result<LoadedPolicy, StartError>,
+)
+    ensures before { Gives loading.fault_told (λ e. e) result.0 (loaded_of before.now) }
+    ensures after { Gives loading.fault_told (λ e. e) result.1 (loaded_of after.now) }
 {
     thread::join(
         rt,
-        move || -> Result<Engine, StartError>
-            ensures { Gives loading.fault_told (λ e. e) result (engine_of before.entry.now) }
+        move || -> Result<LoadedPolicy, StartError>
+            ensures { Gives loading.fault_told (λ e. e) result (loaded_of before.entry.now) }
         { load(alloc, before) },
-        move || -> Result<Engine, StartError>
-            ensures { Gives loading.fault_told (λ e. e) result (engine_of after.entry.now) }
+        move || -> Result<LoadedPolicy, StartError>
+            ensures { Gives loading.fault_told (λ e. e) result (loaded_of after.entry.now) }
         { load(alloc, after) },
     )
 }
@@ -118,8 +121,8 @@ fn compare_policies(
     form: Form,
     shown: Shown,
     identities: Identities,
-    before: &Engine,
-    after: &Engine,
+    before: &LoadedPolicy,
+    after: &LoadedPolicy,
 ) -> Result<Compared, Memory>
     ensures { IfOk result (λ c. compared_told c ≡ comparison form shown identities before.now after.now) }
 {
@@ -138,10 +141,10 @@ fn compare_with(
     form: Form,
     shown: Shown,
     identities: Identities,
-    before: &Engine,
-    after: Result<Engine, StartError>,
+    before: &LoadedPolicy,
+    after: Result<LoadedPolicy, StartError>,
 ) -> Result<Compared, FilesFault>
-    ensures { (given : Result AnEngine FileFault) → Gives loading.fault_told (λ e. e) after given
+    ensures { (given : Result ALoadedPolicy FileFault) → Gives loading.fault_told (λ e. e) after given
         → Gives fault_told compared_told result (compared_to form shown identities before.now given) }
 {
     match after {
@@ -186,11 +189,11 @@ pub fn who_wanted(
 ) -> Result<Answered, FilesFault>
     ensures { Gives fault_told answered_told result (files.who_wanted form objects.now wanted.now) }
 {
-    let engine = load_first(alloc, objects)?;
-    let text = engine.who(alloc, form, wanted)?;
+    let loaded = load_first(alloc, objects)?;
+    let text = loaded.who(alloc, form, wanted)?;
     Ok(Answered {
         text,
-        settled: engine.settled,
+        settled: loaded.settled,
     })
 }
 
@@ -208,15 +211,15 @@ fn question_fault(fault: LineFault) -> FilesFault
 fn who_lines(
     alloc: Global,
     form: Form,
-    engine: &Engine,
+    loaded: &LoadedPolicy,
     questions: &[u8],
 ) -> Result<Answered, FilesFault>
-    ensures { Gives fault_told answered_told result (files.lines_on form questions.now engine.now) }
+    ensures { Gives fault_told answered_told result (files.lines_on form questions.now loaded.now) }
 {
-    match engine.who_lines(alloc, form, questions) {
+    match loaded.who_lines(alloc, form, questions) {
         Ok(text) => Ok(Answered {
             text,
-            settled: engine.settled,
+            settled: loaded.settled,
         }),
         Err(fault) => Err(question_fault(fault)),
     }
@@ -235,8 +238,8 @@ pub fn who_file(
 ) -> Result<Answered, FilesFault>
     ensures { Gives fault_told answered_told result (files.who_file form objects.now questions.now) }
 {
-    let engine = load_first(alloc, objects)?;
-    who_lines(alloc, form, &engine, questions)
+    let loaded = load_first(alloc, objects)?;
+    who_lines(alloc, form, &loaded, questions)
 }
 
 // ---- what a user has, and risks
@@ -253,11 +256,11 @@ pub fn what_file(
 ) -> Result<Answered, FilesFault>
     ensures { Gives fault_told answered_told result (files.what_file form objects.now holder.now) }
 {
-    let engine = load_first(alloc, objects)?;
-    let text = engine.what(alloc, form, holder)?;
+    let loaded = load_first(alloc, objects)?;
+    let text = loaded.what(alloc, form, holder)?;
     Ok(Answered {
         text,
-        settled: engine.settled,
+        settled: loaded.settled,
     })
 }
 
@@ -268,11 +271,11 @@ pub fn what_file(
 pub fn risks_file(alloc: Global, form: Form, objects: &[u8]) -> Result<Answered, FilesFault>
     ensures { Gives fault_told answered_told result (files.risks_file form objects.now) }
 {
-    let engine = load_first(alloc, objects)?;
-    let text = engine.risks(alloc, form)?;
+    let loaded = load_first(alloc, objects)?;
+    let text = loaded.risks(alloc, form)?;
     Ok(Answered {
         text,
-        settled: engine.settled,
+        settled: loaded.settled,
     })
 }
 
@@ -286,8 +289,8 @@ pub fn paths_file(alloc: Global, words: &PathsWords, objects: &[u8]) -> Result<A
     ensures settled { Gives fault_told (λ a. a.settled) result (files.settled_file objects.now) }
     ensures text { IfOk result (λ a. files.ArePaths words.now objects.now a.text.items) }
 {
-    let engine = load_first(alloc, objects)?;
-    let text = engine.paths(
+    let loaded = load_first(alloc, objects)?;
+    let text = loaded.paths(
         alloc,
         words.asking.form,
         words.to.as_str(),
@@ -295,6 +298,6 @@ pub fn paths_file(alloc: Global, words: &PathsWords, objects: &[u8]) -> Result<A
     )?;
     Ok(Answered {
         text,
-        settled: engine.settled,
+        settled: loaded.settled,
     })
 }

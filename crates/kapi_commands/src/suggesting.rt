@@ -58,26 +58,26 @@ fn suggest_beside<R: Print + Eprint + AllocGlobal>(
     read: &ReadPolicy,
     uses: Vec<Question>,
 ) -> io::Result<Ending> {
-    let Ok(engine) = load_first(rt.alloc(), read.lines()) else {
+    let Ok(loaded) = load_first(rt.alloc(), read.lines()) else {
         crate::manifests::tell_refused(rt, read)?;
         return Ok(Ending::Stopped);
     };
     let all = uses.len();
-    let allowed = allowed_uses(rt.alloc(), &engine.policy, uses)?;
+    let allowed = allowed_uses(rt.alloc(), &loaded.policy, uses)?;
     let denied = all.saturating_sub(allowed.len());
     if denied > 0 {
         eprintln!(rt; "left out, as the policy denies them: {denied}")?;
     }
     tell_masters(rt, allowed.as_slice())?;
     print_suggested(rt, words.list, allowed.as_slice())?;
-    tell_unused(rt, &engine.policy, allowed.as_slice())?;
-    tell_unsettled(rt, words.policy.as_str(), engine.settled)?;
+    tell_unused(rt, &loaded.policy, allowed.as_slice())?;
+    tell_unsettled(rt, words.policy.as_str(), loaded.settled)?;
     let doubts = doubts_of(rt, words.policy.as_str(), read)?;
     let doubted = words.reading.strict && doubts.are_some();
     Ok(
         Ending::Done
             .or_doubted(doubted)
-            .or_unsettled(engine.settled),
+            .or_unsettled(loaded.settled),
     )
 }
 

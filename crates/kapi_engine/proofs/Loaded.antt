@@ -1,4 +1,4 @@
--- What a machine is loaded as is what an engine is of.
+-- What a machine is loaded as is what a loaded policy is of.
 use Rattle.std.proofs.Common.{◌≡◌, ℕ, Bool, List, Result, Ok, Err, IsErrAnd, ap, ◌∙◌, subst, sym}
 use Rattle.kapi_text.specs.Gives.{Fails, Gives, ◌>>=◌}
 use Rattle.kapi_core.specs.Machine.{Machine, policy_of}
@@ -8,20 +8,20 @@ use Rattle.kapi_loading.specs.Loading.{policy_machine}
 use Rattle.kapi_loading.specs.Settled.{is_settled}
 use Rattle.kapi_loading.specs.declared.fault.StartError.{StartError}
 use Rattle.kapi_policy.specs.Objects.{PolicyObjects}
-use Rattle.kapi_engine.specs.Engines.{engine_of, engine_on}
-use Rattle.kapi_engine.specs.declared.engine.Engine.{Engine}
+use Rattle.kapi_engine.specs.LoadedPolicies.{loaded_of, loaded_on}
+use Rattle.kapi_engine.specs.declared.loaded_policy.LoadedPolicy.{LoadedPolicy}
 
--- the engine of a machine that is loaded
+-- the loaded policy of a machine that is loaded
 pub engine_made : (objects : List ℕ) (policy : PolicyObjects) (settled : Bool) (m : Machine) → policy_machine objects ≡ Ok m → policy ≡ policy_of m → settled ≡ is_settled m
-    → engine_of objects ≡ Ok (record { policy = policy; settled = settled })
-unfolding engine_of
+    → loaded_of objects ≡ Ok (record { policy = policy; settled = settled })
+unfolding loaded_of
 engine_made objects policy settled m is p s =
-    ap (λ r. r >>= λ k. Ok (engine_on k)) is ∙ (λ i. Ok (record { policy = sym p i; settled = sym s i }))
+    ap (λ r. r >>= λ k. Ok (loaded_on k)) is ∙ (λ i. Ok (record { policy = sym p i; settled = sym s i }))
 
--- why there is no machine is why there is no engine
-pub engine_fails : (objects : List ℕ) (result : Result Engine StartError) (e : StartError) → IsErrAnd result (λ f. f ≡ e) → Fails (fault_told e) (policy_machine objects)
-    → Gives fault_told (λ x. x) result (engine_of objects)
-unfolding engine_of
+-- why there is no machine is why there is no loaded policy
+pub engine_fails : (objects : List ℕ) (result : Result LoadedPolicy StartError) (e : StartError) → IsErrAnd result (λ f. f ≡ e) → Fails (fault_told e) (policy_machine objects)
+    → Gives fault_told (λ x. x) result (loaded_of objects)
+unfolding loaded_of
 engine_fails objects (Ok x) e is h = absurd is
 engine_fails objects (Err f) e is h =
-    subst (λ x. Fails (fault_told x) (policy_machine objects >>= λ m. Ok (engine_on m))) (sym is) (fault_kept (fault_told e) (policy_machine objects) (λ m. Ok (engine_on m)) h)
+    subst (λ x. Fails (fault_told x) (policy_machine objects >>= λ m. Ok (loaded_on m))) (sym is) (fault_kept (fault_told e) (policy_machine objects) (λ m. Ok (loaded_on m)) h)

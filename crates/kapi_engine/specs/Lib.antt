@@ -1,4 +1,4 @@
-pub mod Engines
+pub mod LoadedPolicies
 pub mod Lines
 pub mod Questions
 pub mod Decisions

@@ -9,7 +9,7 @@ ghost use Rattle.kapi_access.specs.Rights.{what_text};
 ghost use Rattle.kapi_engine.specs.Paths.{IsPathsText, settled_end as settled_end_of};
 ghost use Rattle.kapi_lines.specs.Lines.{lines_of};
 
-use crate::engine::Engine;
+use crate::loaded_policy::LoadedPolicy;
 use kapi_access::{
     Compared, Form, Holder, Identities, LineFault, Shown, Wanted, answer_compare, answer_lines,
     answer_risks, answer_what, answer_who, settled_line,
@@ -19,7 +19,7 @@ use kapi_paths::answer_paths;
 use kapi_text::{Memory, Text};
 use std::alloc::Global;
 
-impl Engine {
+impl LoadedPolicy {
     /// Who may do what is asked: a line for each user and group and each binding by which it may.
     pub fn who(&self, alloc: Global, form: Form, wanted: &Wanted) -> Result<Vec<u8>, Memory>
         ensures { IfOk result (λ v. v.items ≡ who_text form self.now.policy wanted.now) }
@@ -102,8 +102,8 @@ pub fn compare(
     form: Form,
     shown: Shown,
     identities: Identities,
-    before: &Engine,
-    after: &Engine,
+    before: &LoadedPolicy,
+    after: &LoadedPolicy,
 ) -> Result<Compared, Memory>
     ensures text { IfOk result (λ c. c.text.items ≡ gains_text form shown (gained identities before.now.policy after.now.policy)) }
     ensures gains { IfOk result (λ c. c.gains ≡ not (length (gained identities before.now.policy after.now.policy) == 0)) }

@@ -4,7 +4,7 @@ ghost use Rattle.kapi_policy.specs.Decided.{decided};
 ghost use Rattle.kapi_policy.specs.Views.{decision_of};
 ghost use Rattle.kapi_engine.specs.Decisions.{decided_on, lacking as lacking_of, missing_of};
 
-use crate::engine::Engine;
+use crate::loaded_policy::LoadedPolicy;
 use kapi_missing::missing;
 use kapi_model::{Identity, PolicyRule, RoleRef};
 use kapi_policy::{Decision, Policy};
@@ -13,7 +13,7 @@ use kapi_rules::{Atom, Point};
 use kapi_text::Memory;
 use std::alloc::Global;
 
-impl Engine {
+impl LoadedPolicy {
     /// Whether the identity may do this in the namespace (cluster-wide if empty), and the first rule that allows it.
     /// Allocates nothing.
     pub fn decide<'a>(&'a self, identity: &Identity, namespace: &str, point: &Point) -> Decision<'a>

@@ -5,17 +5,17 @@
 
 mod answers;
 mod deciding;
-mod engine;
 mod line;
+mod loaded_policy;
 mod manifests;
 mod question;
 
 pub use answers::compare;
-pub use engine::{Engine, load};
 pub use kapi_access::{Compared, Form, Holder, Identities, LineFault, Scope, Shown, Wanted};
 pub use kapi_core::access_reviews;
 pub use kapi_loading::StartError;
 pub use kapi_reviews::Question;
 pub use line::decision_line;
+pub use loaded_policy::{LoadedPolicy, load};
 pub use manifests::{ManifestsFault, load_manifests};
 pub use question::question_of;

@@ -1,18 +1,18 @@
-//! Engines of manifests.
+//! Policies of manifests.
 ghost use Rattle.std.specs.Prelude.{◌≡◌, IfOk, length, map};
 ghost use Rattle.kapi_core.specs.ProgramTable.{program_rows};
 ghost use Rattle.kapi_engine.specs.Manifests.{IsOfManifests, faults_of, origin_of as origin_in};
 ghost use Rattle.kapi_manifests.specs.Written.{Loads};
 ghost use Rattle.kapi_manifests.specs.declared.sorted.Scope.TheVariants as scope;
 
-use crate::engine::{Engine, load};
+use crate::loaded_policy::{LoadedPolicy, load};
 use kapi_core::program_table;
 use kapi_loading::StartError;
 use kapi_manifests::{Fault, Options, Origin, Prepared, Scope, prepare};
 use kapi_text::Memory;
 use std::alloc::Global;
 
-/// Why files of manifests make no engine.
+/// Why files of manifests make no loaded policy.
 #[derive(Drop)]
 pub enum ManifestsFault {
     /// What is wrong with the files, in order, and is never empty.
@@ -45,7 +45,7 @@ pub fn load_manifests(
     namespace: &str,
     defaults: bool,
     files: &[&[u8]],
-) -> Result<Engine, ManifestsFault>
+) -> Result<LoadedPolicy, ManifestsFault>
     ensures { IsOfManifests namespace.now defaults (map (λ text. text.now) files.now) result }
 {
     let prepared = prepare_policy(alloc, namespace, defaults, files)?;
@@ -53,7 +53,7 @@ pub fn load_manifests(
         return Err(ManifestsFault::Files(prepared.faults));
     }
     match load(alloc, prepared.text.as_slice()) {
-        Ok(engine) => Ok(engine),
+        Ok(loaded) => Ok(loaded),
         Err(StartError::Line(number)) => Err(ManifestsFault::Object(origin_of(&prepared, number))),
         Err(StartError::Memory) => Err(ManifestsFault::Memory),
     }

@@ -45,7 +45,7 @@ use Rattle.std.specs.contracts.boxed.Box.into_raw as raws
 use Rattle.std.proofs.boxed.Box.into_raw.Met as raws_met
 use Rattle.kapi_calls.proofs.shared.Shared.TheLaws as engine_laws
 use Rattle.kapi_calls.specs.contracts.shared.Shared as engine
-use Rattle.kapi_engine.specs.Engines.{engine_of}
+use Rattle.kapi_engine.specs.LoadedPolicies.{loaded_of}
 use Rattle.kapi_loading.specs.Faults.{FileFault}
 use Rattle.kapi_c.specs.Handles.{IsLoaded, holds_at, handed}
 use Rattle.kapi_c.specs.Statuses.{status_in}
@@ -81,7 +81,7 @@ kapi_load_spec {M = M} 𝓤 𝓛 𝓜 𝓡 wired =
     let y : W.Ghost = ((κs, qs, bounds, a, vss), x) in
     let G = triple_of 𝓛 makes.signature (makes.spec 𝓛 𝓜.mem 𝓡.returns) in
     let z : G.Ghost = (((κs.0, (κs.1.0, tt)), (qs.0, (qs.1.0, tt)), tt, (a.0, (a.1.0, (a.1.1.0, tt))), (gv ∷ [], (shr_slice_vals a.1.0, (mut_vals a.1.1.0, tt)))), tt) in
-    let room = a.1.1.1.0 in let objects = engine_of a.1.0.now in
+    let room = a.1.1.1.0 in let objects = loaded_of a.1.0.now in
     let both = ‵ (flft κs.0 qs.0) ⊛ ‵ (flft κs.1.0 qs.1.0) ⊛ ‵ ftrue in
     let Made : Loaded.Denot → Type 0 = λ r. MatchResult r (λ b. objects ≡ Ok b.value) (λ st. (n : ℕ) × (st ≡ suc n)) in
     let IsStatusOf : ℕ → ℕ → Type 0 = λ new st. IsLoaded objects a.1.1.0.now new st in

@@ -34,7 +34,7 @@ use denote.Triple.Clauses.{Lasts, lasts, at_exit}
 use denote.Triple.Spec.{triple_of}
 use denote.Triple.Table.{framed}
 use denote.Triple.Walked.{Stays, walk_of, Goes-ref}
-use Rattle.kapi_engine.specs.Engines.{engine_of}
+use Rattle.kapi_engine.specs.LoadedPolicies.{loaded_of}
 use Rattle.kapi_c.specs.Handles.{IsLoaded, holds_at, handed}
 use Rattle.kapi_c.specs.Statuses.{status_in}
 use Rattle.kapi_c.proofs.Rows.{E, Z, E_laws, Z_laws, no_drop, the_drop, drops}

@@ -6,6 +6,6 @@ returns c = (
   c.in-Err.ensures.0,
   failed c.in-Err.fault,
   c.refused.ensures.status,
-  c.refused.ensures.answer (given_of c.in-Err.ensures.0 c.args.engine.now c.args.call.now) c.args.room.now c.in-Err.ensures.1,
+  c.refused.ensures.answer (given_of c.in-Err.ensures.0 c.args.loaded.now c.args.call.now) c.args.room.now c.in-Err.ensures.1,
   tt,
 )

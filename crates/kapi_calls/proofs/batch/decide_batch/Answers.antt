@@ -3,8 +3,8 @@ use Rattle.kapi_text.specs.Gives.{Fails}
 use Rattle.kapi_loading.specs.Faults.{FileFault, fault_told as start_told}
 use Rattle.kapi_loading.specs.declared.fault.StartError.{StartError}
 use Rattle.kapi_loading.specs.declared.fault.StartError.TheVariants as start
-use Rattle.kapi_engine.specs.Engines.{engine_of}
-use Rattle.kapi_engine.specs.declared.engine.Engine.{Engine}
+use Rattle.kapi_engine.specs.LoadedPolicies.{loaded_of}
+use Rattle.kapi_engine.specs.declared.loaded_policy.LoadedPolicy.{LoadedPolicy}
 use Rattle.kapi_calls.specs.declared.fault.CallFault.{CallFault}
 use Rattle.kapi_calls.specs.declared.fault.CallFault.TheVariants as fault
 use Rattle.kapi_calls.specs.declared.passed.PassedQuestion.{PassedQuestion}
@@ -12,14 +12,14 @@ use Rattle.kapi_calls.specs.Batches.{BatchEnds, end_of, failed, line_after, numb
 use Rattle.kapi_calls.specs.Faults.{fault_told}
 use Rattle.kapi_calls.proofs.batch.decide_batch.Goals as goal
 
-failed_ends : (made : Result Engine FileFault) (questions : List PassedQuestion) (engine : Engine) (e : CallFault) (decisions : List ℕ) (at : ℕ) → made ≡ Ok engine
-    → Fails (fault_told e) (numbers_of engine questions) → BatchEnds made questions decisions decisions at at (failed e)
-failed_ends made questions engine fault.Memory decisions at is fails = (refl, refl)
-failed_ends made questions engine (fault.Line number) decisions at is fails = (engine, is, fails, (refl, refl))
-failed_ends made questions engine fault.Text decisions at is fails = (engine, is, fails, (refl, refl))
-failed_ends made questions engine fault.Question decisions at is fails = (engine, is, fails, (refl, refl))
+failed_ends : (made : Result LoadedPolicy FileFault) (questions : List PassedQuestion) (loaded : LoadedPolicy) (e : CallFault) (decisions : List ℕ) (at : ℕ) → made ≡ Ok loaded
+    → Fails (fault_told e) (numbers_of loaded questions) → BatchEnds made questions decisions decisions at at (failed e)
+failed_ends made questions loaded fault.Memory decisions at is fails = (refl, refl)
+failed_ends made questions loaded (fault.Line number) decisions at is fails = (loaded, is, fails, (refl, refl))
+failed_ends made questions loaded fault.Text decisions at is fails = (loaded, is, fails, (refl, refl))
+failed_ends made questions loaded fault.Question decisions at is fails = (loaded, is, fails, (refl, refl))
 
-refused_ends : (made : Result Engine FileFault) (questions : List PassedQuestion) (e : StartError) (decisions : List ℕ) (at : ℕ) → Fails (start_told e) made
+refused_ends : (made : Result LoadedPolicy FileFault) (questions : List PassedQuestion) (e : StartError) (decisions : List ℕ) (at : ℕ) → Fails (start_told e) made
     → BatchEnds made questions decisions decisions at (line_after e at) (end_of e)
 refused_ends made questions (start.Line number) decisions at fails = (fails, refl, refl)
 refused_ends made questions start.Memory decisions at fails = (refl, refl)
@@ -28,9 +28,9 @@ pub returns-in-Err : goal.returns-in-Err
 returns-in-Err c = (
   end_of c.in-Err.fault,
   c.refused.ensures.status,
-  subst (λ at. BatchEnds (engine_of c.args.objects.now) c.args.questions.now c.args.decisions.now c.args.decisions.now c.args.line.now at (end_of c.in-Err.fault)) (sym c.refused.ensures.line)
-      (refused_ends (engine_of c.args.objects.now) c.args.questions.now c.in-Err.fault c.args.decisions.now c.args.line.now c.in-Err.ensures),
+  subst (λ at. BatchEnds (loaded_of c.args.objects.now) c.args.questions.now c.args.decisions.now c.args.decisions.now c.args.line.now at (end_of c.in-Err.fault)) (sym c.refused.ensures.line)
+      (refused_ends (loaded_of c.args.objects.now) c.args.questions.now c.in-Err.fault c.args.decisions.now c.args.line.now c.in-Err.ensures),
 )
 
 pub returns : goal.returns
-returns c = (failed c.in-Err-numbers.fault, c.code.ensures, failed_ends _ _ c.in-Ok.engine c.in-Err-numbers.fault _ _ c.in-Ok.ensures c.in-Err-numbers.ensures.numbers)
+returns c = (failed c.in-Err-numbers.fault, c.code.ensures, failed_ends _ _ c.in-Ok.loaded c.in-Err-numbers.fault _ _ c.in-Ok.ensures c.in-Err-numbers.ensures.numbers)

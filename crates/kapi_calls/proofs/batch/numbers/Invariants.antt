@@ -5,4 +5,4 @@ use Rattle.kapi_calls.proofs.batch.numbers.Given as goal
 
 -- the questions so far are decided
 abbrev pub invariant-loop-question : goal.invariant-loop-question
-invariant-loop-question l = Going (number_in l.engine) l.passed l.question-index l.numbers.items × (length l.numbers.items ≡ l.question-index)
+invariant-loop-question l = Going (number_in l.loaded) l.passed l.question-index l.numbers.items × (length l.numbers.items ≡ l.question-index)

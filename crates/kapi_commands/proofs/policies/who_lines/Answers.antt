@@ -6,9 +6,9 @@ use Rattle.kapi_commands.proofs.Held.{fault_question, goes_on}
 use Rattle.kapi_commands.proofs.policies.who_lines.Goals as goal
 
 pub returns-in-Ok : goal.returns-in-Ok
-returns-in-Ok c = ap (λ r. as_question r >>= λ t. Ok (record { text = t; settled = c.args.engine.now.settled })) c.in-Ok.ensures
+returns-in-Ok c = ap (λ r. as_question r >>= λ t. Ok (record { text = t; settled = c.args.loaded.now.settled })) c.in-Ok.ensures
 
 pub returns-in-Err : goal.returns-in-Err
 returns-in-Err c =
-    subst (λ (e : FilesFault). Fails (fault_told e) (lines_on c.args.form c.args.questions.now c.args.engine.now)) (sym c.question_fault.ensures)
+    subst (λ (e : FilesFault). Fails (fault_told e) (lines_on c.args.form c.args.questions.now c.args.loaded.now)) (sym c.question_fault.ensures)
     (goes_on _ _ _ (fault_question _ _ c.in-Err.ensures))

@@ -2,7 +2,7 @@ use Rattle.std.proofs.Common.{arith, ◌∙◌, sym, ap, subst}
 use Rattle.std.proofs.lemmas.Bool.{eqb-true}
 use Rattle.kapi_text.specs.Gives.{Fails}
 use Rattle.kapi_loading.specs.Faults.{fault_told}
-use Rattle.kapi_engine.specs.Engines.{engine_of}
+use Rattle.kapi_engine.specs.LoadedPolicies.{loaded_of}
 use Rattle.kapi_engine.proofs.manifests.load_manifests.Goals as goal
 
 pub returns-in-Ok : goal.returns-in-Ok
@@ -10,7 +10,7 @@ returns-in-Ok c =
     let faults = c.in_ok-prepared.ensures.faults in
     let empty = eqb-true _ 0 (sym c.is_empty.ensures ∙ c.if-not-is_empty.false) in
     let ok = c.in_ok-prepared.prepared.faults.ok in
-    (c.in_ok-prepared.prepared, (c.in_ok-prepared.ensures.loads, omega (arith, faults, empty, ok)), ap engine_of (sym c.as_slice.ensures.value) ∙ c.in-Ok.ensures)
+    (c.in_ok-prepared.prepared, (c.in_ok-prepared.ensures.loads, omega (arith, faults, empty, ok)), ap loaded_of (sym c.as_slice.ensures.value) ∙ c.in-Ok.ensures)
 
 pub returns-in-Err-Line : goal.returns-in-Err-Line
 returns-in-Err-Line c =
@@ -20,6 +20,6 @@ returns-in-Err-Line c =
       c.in_ok-prepared.prepared,
       (c.in_ok-prepared.ensures.loads, omega (arith, faults, empty, ok)),
       c.in-Err-Line.number,
-      ap engine_of (sym c.as_slice.ensures.value) ∙ subst (λ e. Fails (fault_told e) (engine_of c.as_slice.result.now)) c.in-Err-Line.field-0-is c.in-Err-Line.ensures,
+      ap loaded_of (sym c.as_slice.ensures.value) ∙ subst (λ e. Fails (fault_told e) (loaded_of c.as_slice.result.now)) c.in-Err-Line.field-0-is c.in-Err-Line.ensures,
       c.origin_of.ensures,
     )

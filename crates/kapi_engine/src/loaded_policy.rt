@@ -1,6 +1,6 @@
 ghost use Rattle.kapi_text.specs.Gives.{Gives};
 ghost use Rattle.kapi_loading.specs.Faults.{fault_told};
-ghost use Rattle.kapi_engine.specs.Engines.{engine_of};
+ghost use Rattle.kapi_engine.specs.LoadedPolicies.{loaded_of};
 
 use kapi_index::IndexedPolicy;
 use kapi_loading::{StartError, is_settled, load_policy};
@@ -9,7 +9,7 @@ use std::alloc::Global;
 /// A policy that was loaded, and whether its aggregated cluster roles have their unions. Contracts see its roles and
 /// bindings as `policy`.
 #[derive(Drop)]
-pub struct Engine {
+pub struct LoadedPolicy {
     pub policy: IndexedPolicy,
     pub settled: bool,
 }
@@ -20,13 +20,13 @@ pub struct Engine {
 ///
 /// # Errors
 /// `Line` at the first line that is not loaded, `Memory` if an allocation fails.
-pub fn load(alloc: Global, objects: &[u8]) -> Result<Engine, StartError>
-    ensures { Gives fault_told (λ e. e) result (engine_of objects.now) }
+pub fn load(alloc: Global, objects: &[u8]) -> Result<LoadedPolicy, StartError>
+    ensures { Gives fault_told (λ e. e) result (loaded_of objects.now) }
 {
     let mut core = load_policy(alloc, objects)?;
     if core.is_quiet() {
         let policy = core.into_policy();
-        return Ok(Engine {
+        return Ok(LoadedPolicy {
             policy,
             settled: true,
         });
@@ -34,5 +34,5 @@ pub fn load(alloc: Global, objects: &[u8]) -> Result<Engine, StartError>
     // The turn that is due is not part of what the objects make.
     let policy = core.policy().copy()?;
     let settled = is_settled(&mut core)?;
-    Ok(Engine { policy, settled })
+    Ok(LoadedPolicy { policy, settled })
 }

@@ -1,7 +1,7 @@
 use Rattle.std.proofs.Common.{◌∙◌, ap}
 use Rattle.kapi_loading.specs.Settled.{is_nothing}
 use Rattle.kapi_engine.proofs.Loaded.{engine_fails, engine_made}
-use Rattle.kapi_engine.proofs.engine.load.Goals as goal
+use Rattle.kapi_engine.proofs.loaded_policy.load.Goals as goal
 
 pub returns-in_err-core : goal.returns-in_err-core
 returns-in_err-core c = engine_fails c.args.objects.now c.from_residual.result c.in_err-core.field-0.0 c.from_residual.ensures.1 c.in_err-core.ensures.machine
