@@ -22,8 +22,8 @@ use denote.Struct.Laws.{u32-laws, u32-copy}
 use Rattle.std.specs.contracts.alloc.Global as heap
 use Rattle.std.proofs.alloc.Global.TheLaws as heap_laws
 use Rattle.std.specs.contracts.impls.GlobalAllocator.TheImpl as allocator
-use Rattle.kapi_calls.specs.contracts.shared.Shared as engine
-use Rattle.kapi_calls.proofs.shared.Shared.TheLaws as engine_laws
+use Rattle.kapi_c_requests.specs.contracts.shared.Shared as engine
+use Rattle.kapi_c_requests.proofs.shared.Shared.TheLaws as engine_laws
 
 abbrev pub B : RattleType
 B = box.the_row engine.the_row heap.the_row allocator.ghosts

@@ -22,12 +22,12 @@ use borrow.Fn.Run.{Over}
 use borrow.Fn.Kinds.{ended_of, stays, r_unit}
 use Rattle.std.specs.contracts.alloc.Global as heap
 use Rattle.std.proofs.alloc.Global.TheLaws as heap_laws
-use Rattle.kapi_calls.specs.contracts.shared.Shared as engine
-use Rattle.kapi_calls.proofs.shared.Shared.TheLaws as engine_laws
-use Rattle.kapi_c.proofs.kapi_calls++shared++Shared+Destruct.drop.Kinds as kinds
-use Rattle.kapi_c.proofs.kapi_calls++shared++Shared+Destruct.drop.Met as drop_met
-use Rattle.kapi_c.proofs.kapi_calls++shared++Shared+Destruct.drop.Reads as reads
-use Rattle.kapi_c.proofs.kapi_calls++shared++Shared+Destruct.drop.Symbol as symbol
+use Rattle.kapi_c_requests.specs.contracts.shared.Shared as engine
+use Rattle.kapi_c_requests.proofs.shared.Shared.TheLaws as engine_laws
+use Rattle.kapi_c.proofs.kapi_c_requests++shared++Shared+Destruct.drop.Kinds as kinds
+use Rattle.kapi_c.proofs.kapi_c_requests++shared++Shared+Destruct.drop.Met as drop_met
+use Rattle.kapi_c.proofs.kapi_c_requests++shared++Shared+Destruct.drop.Reads as reads
+use Rattle.kapi_c.proofs.kapi_c_requests++shared++Shared+Destruct.drop.Symbol as symbol
 
 abbrev pub E : RattleType
 E = arg (raw (layout engine.the_row)) no engine.the_row
@@ -46,7 +46,7 @@ abbrev pub no_drop : Dict
 no_drop = impl ("kapi_c::Destruct++none::drop" ∷ []) (tcons (layout Z) tnil) dnil
 
 abbrev pub the_drop : Dict
-the_drop = impl ("kapi_c::kapi_calls++shared++Shared+Destruct::drop" ∷ []) tnil dnil
+the_drop = impl ("kapi_c::kapi_c_requests++shared++Shared+Destruct::drop" ∷ []) tnil dnil
 
 pub drops : {M : Type 1} (𝓤 : Ura M) (𝓛 : Logic 𝓤) (𝓜 : Model 𝓤 𝓛.H) (𝓡 : Running 𝓤 𝓛.H 𝓜) → Wired 𝓡.env symbol.code → Met 𝓛 𝓜 𝓡 𝓡.env E the_drop
 drops {M = M} 𝓤 𝓛 𝓜 𝓡 wired =

@@ -6,7 +6,7 @@ use base.Fml.{Fml, ffalse, feq, fsep}
 use denote.Memory.{lone}
 use mir.Raw.{raw}
 use Rattle.kapi_loading.specs.Faults.{FileFault, bad_line}
-use Rattle.kapi_calls.specs.contracts.shared.Shared.{the_row}
+use Rattle.kapi_c_requests.specs.contracts.shared.Shared.{the_row}
 use Rattle.kapi_engine.specs.declared.loaded_policy.LoadedPolicy.{LoadedPolicy}
 
 -- the loaded policy lies at the handle, and the block there may be freed

@@ -6,13 +6,13 @@ ghost use Rattle.std.specs.Prelude.{◌≡◌, ℕ, suc, MatchResult, Ok};
 ghost use Rattle.std.specs.Borrow.{sem};
 ghost use Rattle.kapi_engine.specs.LoadedPolicies.{loaded_of};
 ghost use Rattle.kapi_engine.specs.declared.loaded_policy.LoadedPolicy.{LoadedPolicy as Loaded};
-ghost use Rattle.kapi_calls.specs.Answers.{IsAnswered};
-ghost use Rattle.kapi_calls.specs.Batches.{IsBatch};
+ghost use Rattle.kapi_c_requests.specs.Answers.{IsAnswered};
+ghost use Rattle.kapi_c_requests.specs.Batches.{IsBatch};
 ghost use Rattle.kapi_c.specs.Handles.{IsLoaded, handed, holds_at};
 
 mod loading;
 
-use kapi_calls::{Answer, Call, PassedQuestion, Shared, answer_shared, decide_batch};
+use kapi_c_requests::{Answer, CQuestion, Call, Shared, answer_shared, decide_batch};
 use loading::{let_go, make_another, make_engine, put};
 use std::alloc::Global;
 
@@ -52,7 +52,7 @@ pub extern "C" fn kapi_load(
 pub extern "C" fn kapi_decide(
     alloc: Global,
     objects: &[u8],
-    questions: &[PassedQuestion<'_>],
+    questions: &[CQuestion<'_>],
     decisions: &mut [u32],
     line: &mut usize,
 ) -> u32

@@ -4,7 +4,7 @@ ghost use Rattle.kapi_c.specs.Handles.{IsLoaded};
 ghost use Rattle.kapi_c.specs.Statuses.{status_in};
 
 use crate::Policy;
-use kapi_calls::{Shared, share};
+use kapi_c_requests::{Shared, share};
 use kapi_engine::{StartError, load};
 use std::alloc::Global;
 

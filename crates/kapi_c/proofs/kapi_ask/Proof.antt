@@ -39,14 +39,14 @@ use denote.Triple.Walked.{Stays, walk_of}
 use denote.Triple.Table.{framed}
 use Rattle.std.specs.contracts.alloc.Global as heap
 use Rattle.std.proofs.alloc.Global.TheLaws as heap_laws
-use Rattle.kapi_calls.specs.contracts.Answer as answer
-use Rattle.kapi_calls.specs.contracts.Call as call
-use Rattle.kapi_calls.specs.contracts.shared.Shared as engine
-use Rattle.kapi_calls.proofs.shared.Shared.TheLaws as engine_laws
-use Rattle.kapi_calls.specs.Answers.{IsAnswered}
+use Rattle.kapi_c_requests.specs.contracts.Answer as answer
+use Rattle.kapi_c_requests.specs.contracts.Call as call
+use Rattle.kapi_c_requests.specs.contracts.shared.Shared as engine
+use Rattle.kapi_c_requests.proofs.shared.Shared.TheLaws as engine_laws
+use Rattle.kapi_c_requests.specs.Answers.{IsAnswered}
 use Rattle.kapi_c.proofs.Passed.{passed, passed_go}
-use Rattle.kapi_calls.specs.contracts.answer_shared as g
-use Rattle.kapi_calls.proofs.answer_shared.Met.{met}
+use Rattle.kapi_c_requests.specs.contracts.answer_shared as g
+use Rattle.kapi_c_requests.proofs.answer_shared.Met.{met}
 use Rattle.kapi_c.specs.contracts.kapi_ask as f
 use Rattle.kapi_c.proofs.kapi_ask.Statement.{statement}
 use Rattle.kapi_c.proofs.kapi_ask.Code as code
@@ -92,7 +92,7 @@ kapi_ask_spec 𝓤 𝓛 𝓜 𝓡 wired =
     let z : G.Ghost = (((κ, κs), (full_share, qs), bounds, (a.0, (s, a.1.1)), (gv ∷ [], (vptr b o ∷ [], rest))), tt) in
     move ! (0 ∷ 3 ∷ []) $ fjoin ! $ move ! (3 ∷ 0 ∷ []) $ fjoin ! $ move ! (2 ∷ 3 ∷ []) $ join ! $ join ! $ nothing ! $ move ! (1 ∷ 0 ∷ []) $ join ! $
     use1 𝓛 (raw (G.pre z)) (id⊢ 𝓤 _) $
-    calls_at ! (framed 𝓤 𝓛.H 𝓜 𝓣) G (met 𝓤 𝓛 𝓜 𝓡 (code.calls-kapi_calls::answer_shared 𝓡.env wired)) z
+    calls_at ! (framed 𝓤 𝓛.H 𝓜 𝓣) G (met 𝓤 𝓛 𝓜 𝓡 (code.calls-kapi_c_requests::answer_shared 𝓡.env wired)) z
     (and_then ! (get ! refl) (and_then ! (get ! refl) (and_then ! (get ! refl) (and_then ! (get ! refl) (and_then ! (get ! refl) (no_more !)))))) (λ v.
     use1 𝓛 (later (some (λ (r : ℕ). ((‵ (flft κ full_share) ⊛ raw (alive 𝓛 P κs qs)) ⊛ ‵ (u32.own_val r (v ∷ []))) ⊛
     some (λ (ws : Lasts g.ended z.0.0 z.0.3). ‵ (lasts g.ended z.0.0 z.0.3 ws) ⊛ raw ((g.clauses 𝓛 𝓜.mem 𝓡.returns z.0.0 z.0.3).ensures tt r (at_exit g.ended z.0.0 z.0.3 ws)))))) (id⊢ 𝓤 _) $

@@ -33,8 +33,8 @@ use Rattle.std.specs.contracts.boxed.Box as box
 use Rattle.std.proofs.boxed.Box.TheLaws as box_laws
 use Rattle.std.specs.contracts.boxed.Box.from_raw as g
 use Rattle.std.proofs.boxed.Box.from_raw.Met as g_met
-use Rattle.kapi_calls.specs.contracts.shared.Shared as engine
-use Rattle.kapi_calls.proofs.shared.Shared.TheLaws as engine_laws
+use Rattle.kapi_c_requests.specs.contracts.shared.Shared as engine
+use Rattle.kapi_c_requests.proofs.shared.Shared.TheLaws as engine_laws
 use Rattle.kapi_c.specs.Handles.{holds_at}
 use Rattle.kapi_c.proofs.Rows.{E, Z, E_laws, Z_laws, no_drop}
 use Rattle.kapi_c.proofs.Passed.{passed, passed_go}

@@ -43,8 +43,8 @@ use Rattle.std.proofs.impls.GlobalAllocator.TheImpl.Met as allocator_met
 use Rattle.std.proofs.boxed.Box.TheLaws as box_laws
 use Rattle.std.specs.contracts.boxed.Box.into_raw as raws
 use Rattle.std.proofs.boxed.Box.into_raw.Met as raws_met
-use Rattle.kapi_calls.proofs.shared.Shared.TheLaws as engine_laws
-use Rattle.kapi_calls.specs.contracts.shared.Shared as engine
+use Rattle.kapi_c_requests.proofs.shared.Shared.TheLaws as engine_laws
+use Rattle.kapi_c_requests.specs.contracts.shared.Shared as engine
 use Rattle.kapi_engine.specs.LoadedPolicies.{loaded_of}
 use Rattle.kapi_loading.specs.Faults.{FileFault}
 use Rattle.kapi_c.specs.Handles.{IsLoaded, holds_at, handed}
@@ -125,7 +125,7 @@ kapi_load_spec {M = M} 𝓤 𝓛 𝓜 𝓡 wired =
     calls_at ! (framed 𝓤 H 𝓜 𝓣) I (raws_met.met 𝓤 𝓛 𝓜 𝓡 (code.calls-std::boxed::Box::into_raw 𝓡.env wired) E Z E_laws Z_laws allocator.ghosts allocator.dict no_drop the_drop
     (allocator_met.passed 𝓡.env (code.calls-std_heap::GlobalAllocator::allocate 𝓡.env wired) (code.calls-std_heap::GlobalAllocator::deallocate 𝓡.env wired) (code.calls-std_heap::GlobalAllocator::grow 𝓡.env wired) (code.calls-std_heap::GlobalAllocator::shrink 𝓡.env wired) M 𝓤 𝓛 𝓜 𝓡)
     (nothing_dropped.glues "kapi_c::Destruct++none::drop" 𝓡.env (code.calls-kapi_c::Destruct++none::drop 𝓡.env wired) Z Z_laws M 𝓤 𝓛 𝓜 𝓡)
-    (drops 𝓤 𝓛 𝓜 𝓡 (code.calls-kapi_c::kapi_calls++shared++Shared+Destruct::drop 𝓡.env wired))) zi (and_then ! (get ! refl) (no_more !)) (λ w.
+    (drops 𝓤 𝓛 𝓜 𝓡 (code.calls-kapi_c::kapi_c_requests++shared++Shared+Destruct::drop 𝓡.env wired))) zi (and_then ! (get ! refl) (no_more !)) (λ w.
     use1 𝓛 (later (some (λ (p : Ptr). (two ⊛ ‵ (RawPtr.own_val p (w ∷ []))) ⊛ some (λ (ls : Lasts (raws.ended E Z allocator.ghosts allocator.dict no_drop the_drop) zi.0.0 zi.0.3). ‵ (lasts (raws.ended E Z allocator.ghosts allocator.dict no_drop the_drop) zi.0.0 zi.0.3 ls) ⊛ ‵ (holds_at p b.value))))) (id⊢ 𝓤 (I.post zi w)) $
     await ! tt $ pick ! (λ p. split ! $ split ! $ drop ! $ feq_l ! (λ ep. pick ! (λ ls. split ! $ drop ! $
     -- [the engine at its pointer; the token of the objects; the room; its token; the locals]
