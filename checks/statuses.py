@@ -251,6 +251,8 @@ LEFT_OUT = "left out, as members of system:masters need no role: 1\n"
 MAY_GO = "".join(f"may go: {it}\n" for it in ("ClusterRoleBinding system:basic-user, ClusterRole system:basic-user, rule 0", "RoleBinding shop/b, Role r, rule 1"))
 ROBOTS = lines(thing("ServiceAccount", "robot"), thing("Role", "r", "shop", rules=[rule("get", "pods")]),
                thing("RoleBinding", "b", "shop", **bound("Role r", "ServiceAccount robot shop", "ServiceAccount default shop")))
+# One name of 100 kB among 500 others, whose lines stay short.
+WIDE = lines(thing("ClusterRole", "r", rules=[rule("get", "pods")]), thing("ClusterRoleBinding", "b", **bound("ClusterRole r", "User " + "x" * 100_000, *(f"User u{it}" for it in range(500)))))
 # Members that an API server drops: the first rule gives all Secrets.
 MISSPELT = lines(thing("ClusterRole", "c", aggregationRule={"clusterRoleSelectors": [{"matchLabel": {}}]}, rule=[]), thing("Role", "r", "shop", rules=[{**rule("get", "secrets"), "resourceName": ["a"]}]),
                  thing("RoleBinding", "b", "shop", **bound("Role r", "User eve"), subject=[]))
@@ -277,6 +279,7 @@ FINDINGS = [
     Case("suggest --policy unused uses", 0, f"left out, as the policy denies them: 2\n{LEFT_OUT}{MAY_GO}".strip(),
          files={"unused": UNUSED, "uses": used("ann", "get") + used("ann", "delete") + used("bob", "get", group="") + used("root", "get", group="system:masters")}),
     Case("suggest uses", 0, LEFT_OUT.strip()),
+    Case("who wide get pods", 0, "", re.compile("(.{,400}\n)+User x{100000}  .{,400}\n(.{,400}\n)+"), files={"wide": WIDE}),
     Case("suggest --policy unused one", 0, re.compile("(?s).*\nmay go: RoleBinding shop/b, Role r, rule 0, rule 1"), None, files={"one": used("root", "get", group="system:masters")}),
     *[Case(f"compare misspelt misspelt {words}".strip(), status, UNREAD, "Nobody gains.\n" if not words else None, files={"misspelt": MISSPELT}) for words, status in (("", 0), ("--strict", 1))],
     Case("suggest --policy chain uses", 4, re.compile(f"left out, as the policy denies them: 3\n(.*\n)*{UNSETTLED}")),

@@ -1,5 +1,5 @@
 -- Rows as they are printed; what is no printable ASCII is escaped in cells.
-use Rattle.std.specs.Prelude.{ℕ, ◌-◌, ◌==◌, max, Bool, if◌then◌else◌, List, [], ◌∷◌, ◌++◌, length, map, replicate, codes}
+use Rattle.std.specs.Prelude.{ℕ, ◌-◌, ◌==◌, max, min, Bool, if◌then◌else◌, List, [], ◌∷◌, ◌++◌, length, map, replicate, codes}
 use Rattle.std.specs.List.{enumerate_from, flat_map, fold, list_any, range_with_len, repeat, slice_get}
 use Rattle.std.specs.Option.{option_map_or}
 use Rattle.kapi_lines.specs.Escapes.{escaped_byte}
@@ -18,11 +18,11 @@ told_words w = record { cells = map (λ s. s.now) w.cells.now; object = w.object
 
 -- ---- columns
 
--- the length of the cell in a column
+-- the length of the cell in a column, or 256 if it is longer
 abbrev pub len_at : ℕ → List (List ℕ) → ℕ
-len_at column cells = option_map_or length (slice_get cells column) 0
+len_at column cells = option_map_or (λ cell. min (length cell) 256) (slice_get cells column) 0
 
--- the width of a column: that of its longest cell
+-- the width of a column: that of its longest cell, up to 256
 abbrev pub width : List (List ℕ) → List (List (List ℕ)) → ℕ → ℕ
 width heads rows column = fold (λ w cells. max w (len_at column cells)) (len_at column heads) rows
 

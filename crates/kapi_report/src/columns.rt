@@ -1,15 +1,18 @@
-//! Columns as wide as their longest cells.
+//! Columns as wide as their longest cells, up to a bound.
 ghost use Rattle.std.specs.Prelude.{◌≡◌, ◌++◌, IfOk, OnOk, replicate};
 ghost use Rattle.kapi_report.specs.Reports as reports;
 
 use kapi_text::{Memory, Sequence};
 use std::alloc::Global;
 
+/// The largest width of a column: a longer cell stands over its edge, so that one name does not make every line long.
+const WIDEST: usize = 256;
+
 fn len_at(cells: &[Sequence<u8>], column: usize) -> usize
     ensures { result ≡ reports.len_at column cells.now }
 {
     match cells.get(column) {
-        Some(cell) => cell.as_slice().len(),
+        Some(cell) => cell.as_slice().len().min(WIDEST),
         None => 0,
     }
 }
