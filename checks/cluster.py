@@ -163,16 +163,12 @@ def mirror_stopped(run):
 
 
 def kapi_stopped(run):
-    """While Kapi is stopped and not ended, nobody is answered but members of system:masters"""
-    if run.changes < MANY:
-        return "left out of a short run"
+    """Kapi is stopped and not ended, and is started anew"""
     os.kill(run.mirror.kapi(), signal.SIGSTOP)
-    begun = time.monotonic()
-    answered = run.status("bob"), run.admin.ask("GET", PODS)[0]
-    waited = f"{answered[0]} after {time.monotonic() - begun:.0f} s"
-    os.kill(run.mirror.kapi(), signal.SIGCONT)
-    assert answered[0] not in (200, 403) and answered[1] == 200, answered
-    return f"bob is answered {waited}; {run.until(200, 'bob')} after it goes on"
+    time.sleep(0.2)
+    waited = run.until(200, "bob")
+    assert float(waited.split()[0]) < 10_000, waited
+    return waited
 
 
 def cluster_restarts(run):
@@ -335,10 +331,44 @@ def refused_object(run):
     if not hasattr(run.cluster, "replay"):
         return "left out, since a real one refuses it too"
     run.write("POST", RBAC + "/clusterroles", {"metadata": {"name": "odd"}, "rules": [{"verbs": []}]})
-    run.until_said("Kapi refuses ClusterRole {'name': 'odd'}")
+    kapi = run.mirror.kapi()
+    run.until_said("Kapi refuses ClusterRole odd")
     run.until(200, "bob")
     run.write("DELETE", RBAC + "/clusterroles/odd")
+    assert run.mirror.kapi() == kapi
     return until_equal(run)
+
+
+def large_roles(run):
+    """Roles that are too large, or have long names, are left out, and Kapi goes on; one that grows gives nothing until it is small again"""
+    kapi, large = run.mirror.kapi(), role("grows", "pods")
+    run.write("POST", NAMED + "/roles", large)
+    run.write("POST", NAMED + "/rolebindings", binding("grows", "grows", "dan"))
+    run.until(200, "dan")
+    large = {**large, "rules": large["rules"] + [{"apiGroups": [""], "resources": ["pods"], "verbs": ["get"], "resourceNames": [f"name-{it:08}" for it in range(85_000)]}]}
+    long = {**role("x" * 16_300, "pods"), "metadata": {"name": "x" * 16_300}}
+    for _time in range(3):
+        run.write("PUT", NAMED + "/roles/grows", large)
+        run.write("POST", NAMED + "/roles", long)
+        run.until(403, "dan")
+        run.write("PUT", NAMED + "/roles/grows", role("grows", "pods"))
+        run.until(200, "dan")
+        run.write("DELETE", NAMED + "/roles/" + "x" * 16_300)
+    run.write("DELETE", NAMED + "/rolebindings/grows")
+    run.write("DELETE", NAMED + "/roles/grows")
+    assert run.mirror.kapi() == kapi, "it was started anew"
+    return until_equal(run)
+
+
+def other_hand(run):
+    """What another local user writes into Kapi is gone after a minute"""
+    if run.changes < MANY:
+        return "left out of a short run"
+    more = {"metadata": {"name": "more"}, "roleRef": {"apiGroup": GROUP, "kind": "ClusterRole", "name": "cluster-admin"}, "subjects": [{"kind": "User", "apiGroup": GROUP, "name": "ida"}]}
+    assert Client(ROOT).ask("POST", RBAC + "/clusterrolebindings", more)[0] == 201
+    run.until(200, "ida")
+    run.until_said("Kapi has another ClusterRoleBinding more than the cluster", seconds=2 * SECONDS)
+    return f"{run.until(403, 'ida')} after it was seen"
 
 
 def many_changes(run):
@@ -412,7 +442,7 @@ def shadow(run):
 
 STEPS = (cluster_alone, mirror_later, set_up_is_seen, grants_are_seen, kapi_killed, mirror_killed, kapi_then_mirror, mirror_then_kapi, killed_at_once,
          mirror_stopped, kapi_stopped, cluster_restarts, mirror_first, watch_cut, watch_silent, swap_live, swap_in_a_cut, odd_names, selectors,
-         stored_watch, change_between_lists, refused_object, many_changes, refused, old_reviews, shadow)
+         stored_watch, change_between_lists, refused_object, large_roles, other_hand, many_changes, refused, old_reviews, shadow)
 
 
 def cluster_of(webhook):

@@ -32,12 +32,20 @@ RBAC = "rbac.authorization.k8s.io/v1"
 KINDS = {"ClusterRole": "clusterroles", "Role": "roles", "ClusterRoleBinding": "clusterrolebindings", "RoleBinding": "rolebindings"}
 # What Kapi has from its start, so no file can load it.
 BEGINS_WITH = [(kind, "", name) for kind in ("ClusterRole", "ClusterRoleBinding") for name in ("cluster-admin", "system:basic-user")]
+# What Kapi takes at most: the body of a request, and a name in a path, of which a quoted character takes up to twelve.
+BODY, NAME = 1 << 20, 12_000
+# So long Kapi may take for an answer; it is asked each second.
+ANSWER_SECONDS = 3
 # The cluster ends a watch after so long, and it goes on by another; one that is silent for longer is broken.
 WATCH_SECONDS, SILENT_SECONDS, PAUSE_SECONDS, SAME_SECONDS = 60, 70, 1, 60
 
 
 class Fault(Exception):
     """Something that is said and tried again."""
+
+
+class Refusal(Fault):
+    """An object that Kapi does not take."""
 
 
 FAULTS = (Fault, OSError, ValueError, KeyError, http.client.HTTPException, urllib3.exceptions.HTTPError)
@@ -91,13 +99,15 @@ class Cluster:
         return at["resourceVersion"], found
 
     def changes(self, revision):
-        """The key of each object that changes after the revision, with the object or nothing, until one of the watches breaks."""
+        """Lists of what has changed after the revision: the key of each object, with the object or nothing. Until one of the watches breaks."""
         said = queue.Queue()
         watches = [Watch(self, kind, revision, said) for kind in KINDS]
         try:
-            while not isinstance(change := said.get(), Fault):
-                yield change
-            raise change
+            while True:
+                found = [said.get(), *(said.get_nowait() for _it in range(said.qsize()))]
+                yield [it for it in found if not isinstance(it, Fault)]
+                for fault in (it for it in found if isinstance(it, Fault)):
+                    raise fault
         finally:
             for watch in watches:
                 watch.end()
@@ -147,42 +157,82 @@ class Watch(threading.Thread):
             self.response.connection.sock.shutdown(socket.SHUT_RDWR)
 
 
+def body_of(item):
+    """An object in the bytes of a request; what is no text is refused by Kapi."""
+    return json.dumps(item, ensure_ascii=False).encode(errors="surrogatepass")
+
+
+def is_too_large(key, item):
+    return len(body_of(item)) > BODY or len(urllib.parse.quote(key[2])) > NAME
+
+
 class Kapi:
-    """A `kapi serve` with the objects that are wanted. It is started anew from them whenever it ends or does not take a change."""
+    """A `kapi serve` with the objects that are wanted. It is started anew from them whenever it ends.
+
+    An object that it does not take is left out, the one of that name that it had too: without a role or a binding it allows no more."""
 
     def __init__(self, program, root, webhook):
         self.program, self.root, self.webhook = program, root, webhook
         self.user = f"kapi:{secrets.token_hex(16)}"
-        self.wanted, self.is_filled, self.process, self.changed, self.lock = {}, False, None, 0, threading.RLock()
+        self.wanted, self.left_out, self.differs, self.is_filled, self.process, self.lock = {}, set(), {}, False, None, threading.RLock()
+        self.changed, self.starts = 0, 0
 
     def fill(self, objects):
         """Makes it equal to a list. More than one difference is never shown in part: Kapi is started anew."""
         with self.lock:
             differ = [key for key in {**self.wanted, **objects} if self.wanted.get(key) != objects.get(key)]
             if self.is_filled and len(differ) == 1:
-                self.change(differ[0], objects.get(differ[0]))
+                self.change([(differ[0], objects.get(differ[0]))])
             elif differ or not self.is_filled:
                 self.wanted, self.is_filled, self.changed = objects, True, self.changed + len(differ)
                 self.start()
 
-    def change(self, key, item):
+    def change(self, changes):
+        """Makes changes one by one. If one cannot be made, Kapi is started anew once, with those behind it too."""
         with self.lock:
-            old = self.wanted.pop(key, None)
-            self.wanted.update({key: item} if item else {})
-            if old == item:
-                return
-            self.changed += 1
-            try:
-                self.send(key, old, item)
-            except FAULTS as fault:
-                say(f"Kapi did not take {' '.join(filter(None, key))}: {words_of(fault)}; it is started anew")
-                self.start()
+            for at, (key, item) in enumerate(changes):
+                held = None if key in self.left_out else self.wanted.get(key)
+                if not self.want(key, item):
+                    continue
+                try:
+                    self.make(key, held, item)
+                except FAULTS as fault:
+                    say(f"Kapi did not take {' '.join(filter(None, key))}: {words_of(fault)}; it is started anew")
+                    for key, item in changes[at + 1:]:
+                        self.want(key, item)
+                    return self.start()
+
+    def want(self, key, item):
+        """Whether it is another than the one that was wanted."""
+        old = self.wanted.pop(key, None)
+        self.wanted.update({key: item} if item else {})
+        self.changed += old != item
+        return old != item
+
+    def make(self, key, held, item):
+        """Makes one change; of an object that is not taken, that it is not there."""
+        self.left_out.discard(key)
+        try:
+            if item and is_too_large(key, item):
+                raise Refusal("it is too large")
+            self.send(key, held, item)
+        except Refusal as fault:
+            if not item:
+                raise
+            self.leave_out(key, fault)
+            self.send(key, held, None)
+
+    def leave_out(self, key, why):
+        self.left_out.add(key)
+        say(f"Kapi refuses {key[0]} {'/'.join(filter(None, key[1:]))[:300]}, so it is left out: {words_of(why)[:300]}")
 
     def send(self, key, old, item):
         """Makes one change by one request, so that no review meets half of it."""
         kind, namespace, name = key
         if old and item and old.get("roleRef") != item.get("roleRef"):
             raise Fault("its roleRef is another")
+        if not old and not item:
+            return
         if namespace not in self.namespaces:
             self.ask("POST", "/api/v1/namespaces", {"metadata": {"name": namespace}})
             self.namespaces.add(namespace)
@@ -190,21 +240,23 @@ class Kapi:
         self.ask(method, path_of(kind, namespace, name if old else ""), item)
 
     def ask(self, method, path, item=None):
-        self.client.request(method, path, json.dumps(item) if item else None, {"Content-Type": "application/json"})
+        self.client.request(method, path, body_of(item) if item else None, {"Content-Type": "application/json"})
         answer = self.client.getresponse()
         said = answer.read().decode()
         if answer.status >= 300:
-            raise Fault(f"{answer.status} {said}")
+            raise (Refusal if answer.status in (400, 413, 422, 431) else Fault)(f"{answer.status} {said}")
+        return said
 
     def start(self):
         """Ends it and starts it with all that is wanted. Until the last step it answers no review."""
+        self.starts += 1
         try:
             self.end()
             self.load()
             for key in BEGINS_WITH:
                 self.ask("DELETE", path_of(*key))
                 if key in self.wanted:
-                    self.ask("POST", path_of(key[0]), self.wanted[key])
+                    self.make(key, None, self.wanted[key])
             self.let_in()
         except FAULTS as fault:
             say(words_of(fault))
@@ -212,16 +264,20 @@ class Kapi:
             time.sleep(PAUSE_SECONDS)
 
     def load(self):
-        """Starts the program with all that it can load, but for what it refuses, which so allows nothing."""
+        """Starts the program with all that it can load, but for what it refuses."""
         self.namespaces = {"", "default"} | {namespace for _kind, namespace, _name in self.wanted}
-        objects = [{"apiVersion": "v1", "kind": "Namespace", "metadata": {"name": it}} for it in sorted(self.namespaces - {"", "default"})]
-        objects += [it for key, it in self.wanted.items() if key not in BEGINS_WITH]
-        while fault := self.launch(objects):
+        objects = [(None, {"apiVersion": "v1", "kind": "Namespace", "metadata": {"name": it}}) for it in sorted(self.namespaces - {"", "default"})]
+        large = {key for key, it in self.wanted.items() if is_too_large(key, it)}
+        for key in large - self.left_out:
+            self.leave_out(key, Refusal("it is too large"))
+        self.left_out = large
+        objects += [(key, it) for key, it in self.wanted.items() if key not in BEGINS_WITH and key not in large]
+        while fault := self.launch([it for _key, it in objects]):
             if not fault.startswith("load line "):
                 raise Fault(f"Kapi does not start: {fault}")
-            refused = objects.pop(int(fault.split()[2]) - 1)
-            say(f"Kapi refuses {refused['kind']} {refused['metadata']}, so it is left out: {' '.join(fault.split()[3:])}")
-        self.client = http.client.HTTPConnection("127.0.0.1", self.root, timeout=30)
+            key, refused = objects.pop(int(fault.split()[2]) - 1)
+            self.leave_out(key or ("Namespace", "", refused["metadata"]["name"]), Refusal(" ".join(fault.split()[3:])))
+        self.client = http.client.HTTPConnection("127.0.0.1", self.root, timeout=ANSWER_SECONDS)
 
     def launch(self, objects):
         """Starts the program; what it says if it ends."""
@@ -250,22 +306,58 @@ class Kapi:
             self.process.communicate()
 
     def tend(self):
-        """Starts it anew whenever it has ended, without end."""
+        """Starts it anew whenever it has ended, or does not answer, without end."""
+        asked = time.monotonic()
         while True:
             time.sleep(0.1)
             with self.lock:
                 if self.is_filled and (not self.process or self.process.poll() is not None):
                     say(f"Kapi has ended{f' with status {self.process.returncode}' if self.process else ''}; it is started anew")
                     self.start()
+                elif self.is_filled and time.monotonic() - asked > 1:
+                    asked = time.monotonic()
+                    self.wake()
+
+    def wake(self):
+        """Starts it anew if it does not answer."""
+        try:
+            self.ask("GET", "/healthz")
+        except FAULTS as fault:
+            say(f"Kapi does not answer: {words_of(fault)}; it is started anew")
+            self.start()
+
+    def compare(self):
+        """Starts it anew if its lists are others than the cluster's; not twice for the same difference."""
+        with self.lock:
+            at, wanted = (self.changed, self.starts), {key: held(it) for key, it in self.wanted.items() if key not in self.left_out}
+        found, client = {}, http.client.HTTPConnection("127.0.0.1", self.root, timeout=WATCH_SECONDS)
+        with contextlib.suppress(*FAULTS):
+            for kind in KINDS:
+                client.request("GET", path_of(kind))
+                found.update((key_of(kind, it), held(it)) for it in json.loads(client.getresponse().read())["items"] if it["metadata"]["name"] != self.user)
+            differ = {key: found.get(key) for key in {**found, **wanted} if found.get(key) != wanted.get(key)}
+            with self.lock:
+                if at == (self.changed, self.starts) and differ != self.differs:
+                    self.differs = differ
+                    if differ:
+                        say(f"Kapi has another {', '.join(' '.join(filter(None, it)) for it in list(differ)[:3])} than the cluster; it is started anew")
+                        self.start()
+
+
+def held(item):
+    """What decisions read of an object, as Kapi and a cluster both show it."""
+    return item.get("rules") or [], item.get("roleRef"), item.get("subjects") or []
 
 
 def report(cluster, kapi):
-    """A line a minute."""
+    """A line a minute, after Kapi's lists were compared with the cluster's."""
+    last = 0
     while True:
-        with kapi.lock:
-            counts = [f"{sum(key[0] == kind for key in kapi.wanted)} {plural}" for kind, plural in KINDS.items()]
-            changed, kapi.changed = kapi.changed, 0
         if kapi.process:
+            kapi.compare()
+            with kapi.lock:
+                counts = [f"{sum(key[0] == kind for key in kapi.wanted)} {plural}" for kind, plural in KINDS.items()]
+                last, changed = kapi.changed, kapi.changed - last
             say(f"{', '.join(counts)}; {changed} changes since the last such line; {cluster.asks(kapi.user)}")
         time.sleep(60 if kapi.process else 0.1)
 
@@ -278,8 +370,8 @@ def follow(cluster, kapi):
             revision, objects = cluster.list()
             last = None
             kapi.fill(objects)
-            for change in cluster.changes(revision):
-                kapi.change(*change)
+            for changes in cluster.changes(revision):
+                kapi.change(changes)
         except (client.ApiException, *FAULTS) as fault:
             if getattr(fault, "status", 0) in (401, 403):
                 return words_of(fault)
