@@ -4,9 +4,9 @@ ghost use Rattle.kapi_core.specs.Table.{fits};
 
 use kapi_audit::{AuditFault, Audited, NoGate, audit_alone, audit_run};
 use kapi_command_line::{AuditFiles, Reading};
-use kapi_commands::{
-    Ending, ReadPolicy, audit_log, doubts_of, print, read_file, read_kinds, read_policy_of,
-    tell_reason, tell_refused, tell_unsettled,
+use kapi_commands::{audit_log, doubts_of, tell_unsettled};
+use kapi_files::{
+    Ending, ReadPolicy, print, read_file, read_kinds, read_policy_of, tell_reason, tell_refused,
 };
 use kapi_lines::{Form, as_text, numbered_lines};
 use kapi_loading::{object_reason, question_reason};

@@ -12,10 +12,8 @@ mod serving;
 use auditing::run_audit;
 use clap::Error;
 use kapi_command_line::{Command, CommandFault, command, complaint};
-use kapi_commands::{
-    Ending, read_kinds, run_check, run_compare, run_paths, run_risks, run_suggest, run_what,
-    run_who, tell_stopped,
-};
+use kapi_commands::{run_check, run_compare, run_paths, run_risks, run_suggest, run_what, run_who};
+use kapi_files::{Ending, read_kinds, tell_stopped};
 use kapi_index::IndexedPolicy;
 use kapi_script::script_run;
 use kapi_text::Text;

@@ -1,6 +1,6 @@
 //! Transcripts, played.
 use kapi_command_line::ReplayOptions;
-use kapi_commands::{Ending, KUBERNETES, read_file, read_texts, tell_unread};
+use kapi_files::{Ending, KUBERNETES, read_file, read_texts, tell_unread};
 use kapi_kinds::kubernetes_kinds;
 use kapi_replay::{
     LoadedFile, NamedFile, Outcome, Transcript, are_sure, are_well, junit_text, loaded_names,

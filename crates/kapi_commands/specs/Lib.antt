@@ -1,2 +1,1 @@
 pub mod Policies
-pub mod Endings

@@ -1,16 +1,14 @@
 //! Questions about the policies of files.
 use crate::doubts::{Doubts, EMPTY, full_resource};
-use crate::ending::Ending;
-use crate::manifests::{ReadPolicy, read_policy, tell_refused};
 use crate::policies::{
     Answered, Compared, FilesFault, compare_files, paths_file, risks_file, what_file, who_file,
     who_wanted,
 };
-use crate::telling::{print, read_file};
 use kapi_access::{Form, Holder, Identities, Scope, Shown, asked_as, question_of};
 use kapi_command_line::{
     Asking, CompareWords, PathsWords, WhatWords, WhoQuestion, WhoWanted, WhoWords,
 };
+use kapi_files::{Ending, ReadPolicy, print, read_file, read_policy, tell_refused};
 use kapi_paths::is_kind;
 use kapi_text::{Memory, Text};
 use std::alloc::Global;

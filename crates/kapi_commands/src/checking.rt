@@ -1,13 +1,10 @@
 //! What dangles in a policy: `kapi check`.
 use crate::asking::{doubts_of, tell_unsettled};
-use crate::ending::Ending;
-use crate::kinds::read_kinds;
-use crate::manifests::{ReadPolicy, read_policy, tell_refused};
 use crate::policies::{FilesFault, load_first};
 use crate::rows::finding_row;
-use crate::telling::print;
 use kapi_access::{absent_accounts, bound_places, covered_rules, dangles};
 use kapi_command_line::Asking;
+use kapi_files::{Ending, ReadPolicy, place_of, print, read_kinds, read_policy, tell_refused};
 use kapi_index::IndexedPolicy;
 use kapi_lines::{Form, numbered_lines};
 use kapi_manifests::{Origin, text_at};
@@ -407,19 +404,6 @@ fn has_resource(table: &[ResourceRow], group: &str, resource: &str) -> bool {
 }
 
 // ---- names
-
-/// The kind and the place of an object.
-pub fn place_of<'a>(object: &'a Value) -> (&'a str, &'a str, &'a str) {
-    let kind = text_at(object, "kind");
-    match object.get("metadata") {
-        Some(metadata) => (
-            kind,
-            text_at(metadata, "namespace"),
-            text_at(metadata, "name"),
-        ),
-        None => (kind, "", ""),
-    }
-}
 
 fn named_by(object: &Value) -> Named<'_> {
     let (kind, namespace, name) = place_of(object);

@@ -1,7 +1,6 @@
 //! Doubts about policies and questions: what is likely not meant, reported on standard error.
-use crate::manifests::ReadPolicy;
-use crate::telling::Plain;
 use kapi_access::{Scope, question_of};
+use kapi_files::{Plain, ReadPolicy};
 use kapi_lines::{as_text, numbered_lines};
 use kapi_manifests::{Words, text_at};
 use kapi_rules::Point;

@@ -1,12 +1,10 @@
 //! A cluster's audit log, answered by a policy: `kapi audit --log`.
 use crate::asking::{doubts_of, tell_unsettled};
 use crate::checking::request_words;
-use crate::ending::Ending;
-use crate::manifests::{read_policy, tell_refused};
 use crate::policies::load_first;
 use crate::rows::{denied_row, difference_row};
-use crate::telling::{print, read_file};
 use kapi_command_line::{AuditFiles, Reading};
+use kapi_files::{Ending, print, read_file, read_policy, tell_refused};
 use kapi_lines::{Form, numbered_lines};
 use kapi_policy::Policy;
 use kapi_report::report;

@@ -1,12 +1,10 @@
 //! The least roles for what was used: `kapi suggest`.
 use crate::asking::{doubts_of, tell_unsettled};
 use crate::checking::{binding_kind, place_words};
-use crate::ending::Ending;
-use crate::manifests::{ReadPolicy, read_policy};
 use crate::policies::load_first;
-use crate::telling::{Plain, print, read_file};
 use kapi_command_line::SuggestWords;
 use kapi_engine::{access_reviews, question_of};
+use kapi_files::{Ending, Plain, ReadPolicy, print, read_file, read_policy, tell_refused};
 use kapi_index::IndexedPolicy;
 use kapi_lines::numbered_lines;
 use kapi_model::Subject;
@@ -59,7 +57,7 @@ fn suggest_beside<R: Print + Eprint + AllocGlobal>(
     uses: Vec<Question>,
 ) -> io::Result<Ending> {
     let Ok(loaded) = load_first(rt.alloc(), read.lines()) else {
-        crate::manifests::tell_refused(rt, read)?;
+        tell_refused(rt, read)?;
         return Ok(Ending::Stopped);
     };
     let all = uses.len();

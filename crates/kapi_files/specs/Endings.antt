@@ -1,7 +1,7 @@
 -- How a program ends, and its exit status.
 use Rattle.std.specs.Prelude.{ℕ, Bool, true, false}
-use Rattle.kapi_commands.specs.declared.ending.Ending.{Ending}
-use Rattle.kapi_commands.specs.declared.ending.Ending.TheVariants as ending
+use Rattle.kapi_files.specs.declared.ending.Ending.{Ending}
+use Rattle.kapi_files.specs.declared.ending.Ending.TheVariants as ending
 
 abbrev pub status_of : Ending → ℕ
 status_of ending.Done = 0

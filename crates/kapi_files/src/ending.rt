@@ -1,8 +1,8 @@
 //! How a program ends, and its exit status.
 ghost use Rattle.std.specs.Prelude.{◌≡◌, if◌then◌else◌};
-ghost use Rattle.kapi_commands.specs.declared.ending.Ending.TheVariants.{Doubted, Unsettled};
+ghost use Rattle.kapi_files.specs.declared.ending.Ending.TheVariants.{Doubted, Unsettled};
 ghost use Rattle.std.specs.Process.{exit_status};
-ghost use Rattle.kapi_commands.specs.Endings.{compared_as, played_as, status_of};
+ghost use Rattle.kapi_files.specs.Endings.{compared_as, played_as, status_of};
 
 use std::process::ExitCode;
 

@@ -2,14 +2,13 @@
 ghost use Rattle.std.specs.Prelude.{◌≡◌, true};
 ghost use Rattle.kapi_core.specs.Table.{fits};
 
-use crate::checking::place_of;
 use crate::sources::{Source, read_named, texts_of};
 use crate::telling::Plain;
 use kapi_command_line::Reading;
 use kapi_core::program_table;
 use kapi_lines::numbered_lines;
 use kapi_loading::{LineReason, line_reasons};
-use kapi_manifests::{Options, Origin, Prepared, Scope, prepare};
+use kapi_manifests::{Options, Origin, Prepared, Scope, prepare, text_at};
 use kapi_model::ResourceRow;
 use kapi_policy::NamespacedName;
 use kapi_text::{Memory, Sequence, Text};
@@ -246,5 +245,18 @@ impl ReadPolicy {
     /// Whether the files have a role or a binding.
     pub fn has_policy(&self) -> bool {
         self.prepared.roles > 0 || self.prepared.bindings > 0
+    }
+}
+
+/// The kind and the place of an object.
+pub fn place_of<'a>(object: &'a Value) -> (&'a str, &'a str, &'a str) {
+    let kind = text_at(object, "kind");
+    match object.get("metadata") {
+        Some(metadata) => (
+            kind,
+            text_at(metadata, "namespace"),
+            text_at(metadata, "name"),
+        ),
+        None => (kind, "", ""),
     }
 }
