@@ -65,6 +65,8 @@ FILES = {
     + role("ClusterRole", "scopes", "impersonate", "userextras/scopes", group="authentication.k8s.io")
     + binding("ClusterRoleBinding", "scoped", "ClusterRole scopes", "User bob"),
     "homeless": ACTORS, "more": ACTORS + binding("RoleBinding", "others", "Role actor", "User eve"),
+    "twice": "".join(role("Role", f"{it}/actor", "impersonate", "users") + binding("RoleBinding", f"{it}/actors", "Role actor", "User bob") for it in ("shop", "web"))
+    + binding("RoleBinding", "shop/again", "Role actor", "User ann", "User bob") + binding("RoleBinding", "web/more", "Role actor", "User bob"),
     "named": role("Role", "shop/reader", "get", "pods", "a") + READERS.rstrip(), "map": MAP["b"], "maps": MAP["a"] + MAP["b"].rstrip(),
     "folder/1.json": compact({"kind": "List", "items": [json.loads(it) for it in SEER.splitlines()]}),
     "folder/2.jsonl": READER.rstrip(), "folder/3.jsonl": READERS.rstrip(), "folder/.notes": "not read",
@@ -178,6 +180,7 @@ CASES = [
     case("suggest --log logged", LOGGED), case("suggest before", "", 1),
     *[case(f"audit {it} after logged --log", AUDITED, 3) for it in ("", "--manifests")],
     case("audit --json before questions", '{"allowed":false}\n{"allowed":true,"reason":"RoleBinding readers, Role reader, rule 0"}\n' * 2),
+    case("risks twice", ways(BOB.format("shop"), "User ann | shop | RoleBinding again | Role actor, rule 0", BOB.format("web")) + NOTHING),
     case("risks owned", ways("User bob | * | ClusterRoleBinding scoped | ClusterRole scopes, rule 0") + NOTHING),
     case("risks - --namespace shop", ways(BOB.format("shop")) + NOTHING, given=ACTORS.rstrip()),
     *[case(f"replay {words}", told, 1) for words, told in (("one", ONE), ("one two", ONE + TWO), ("two one", TWO + ONE))],

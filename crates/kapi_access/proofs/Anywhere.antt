@@ -1,4 +1,4 @@
--- Who may anywhere is who may in each scope.
+-- Who is listed in each scope is who holds a rule there.
 use Rattle.std.proofs.Common.{◌≡◌, ℕ, Bool, true, false, ◌&&◌, ◌||◌, ◌==◌, if◌then◌else◌, List, [], ◌∷◌, length, map, Option, Some, None, refl, sym, ap, ◌∙◌}
 use Rattle.std.specs.List.{list_any, position}
 use Rattle.std.specs.Str.{bytes_eq}
@@ -11,13 +11,13 @@ use Rattle.kapi_rules.specs.Rules.{allows}
 use Rattle.kapi_rules.specs.declared.point.Point.{Point}
 use Rattle.kapi_policy.proofs.Decisions.{allowed_where_held}
 use Rattle.kapi_policy.specs.All.{all_bindings}
-use Rattle.kapi_policy.specs.Decided.{Binding}
+use Rattle.kapi_policy.specs.Decided.{Binding, held}
 use Rattle.kapi_policy.specs.Objects.{PolicyObjects}
 use Rattle.kapi_gains.specs.Access.{may}
 use Rattle.kapi_access.specs.declared.grantee.Grantee.{Grantee}
 use Rattle.kapi_access.specs.declared.first_ways.Listed.TheVariants as listed
 use Rattle.kapi_access.specs.Grantees.{grantees, matches, role_of}
-use Rattle.kapi_access.specs.Who.{Way, counts, is_named_in, ways, ways_by, ways_of, who_anywhere}
+use Rattle.kapi_access.specs.Who.{Way, counts, first_ways, is_named_in, ways, ways_by, ways_of, who_anywhere}
 use Rattle.kapi_access.proofs.Bound.{held_named}
 use Rattle.kapi_access.proofs.First.{first_some}
 use Rattle.kapi_access.proofs.Walks.{all_count}
@@ -60,16 +60,17 @@ module _ (identity : Identity) (namespace : List ℕ) where
       ap (λ g. matches g identity && counts namespace a.binding) to
       ∙ ap (λ (n : List ℕ). matches b.to identity && (length n == 0 || bytes_eq n namespace)) there
 
-  -- a line names whom a binding that counts gives it
-  pub anywhere_is_exact : (objects : PolicyObjects) (p : Point) → may objects identity namespace p ≡ (is_master identity || is_named_in namespace (who_anywhere objects p) identity)
-  unfolding who_anywhere
-  anywhere_is_exact objects p =
-      let test : PolicyRule → Bool = λ rule. allows rule p in
-      allowed_where_held objects identity namespace p
-      ∙ ap (λ t. is_master identity || t)
-      (held_named objects identity test namespace
+  -- a line names whom a binding that counts gives a rule that passes
+  pub held_there : (objects : PolicyObjects) (test : PolicyRule → Bool)
+      → list_any test (held objects identity namespace) ≡ is_named_in namespace (first_ways listed.InEachScope (ways objects test (all_bindings objects))) identity
+  held_there objects test =
+      held_named objects identity test namespace
       ∙ ap (list_any meant) (sym (all_count (ways_of objects test) objects namespace))
       ∙ any_flat_map meant (λ b. if counts namespace b then ways_of objects test b else []) (all_bindings objects)
       ∙ any_same _ _ (all_bindings objects) (by_binding objects test)
       ∙ sym (any_flat_map meant_there (ways_of objects test) (all_bindings objects))
-      ∙ sym (first_some listed.InEachScope meant_there alike (ways objects test (all_bindings objects))))
+      ∙ sym (first_some listed.InEachScope meant_there alike (ways objects test (all_bindings objects)))
+
+  pub anywhere_is_exact : (objects : PolicyObjects) (p : Point) → may objects identity namespace p ≡ (is_master identity || is_named_in namespace (who_anywhere objects p) identity)
+  unfolding who_anywhere
+  anywhere_is_exact objects p = allowed_where_held objects identity namespace p ∙ ap (λ t. is_master identity || t) (held_there objects (λ rule. allows rule p))

@@ -136,6 +136,6 @@ pub each_anywhere_once : (objects : PolicyObjects) (p : Point) → IsEachOnce li
 unfolding who_anywhere
 each_anywhere_once objects p = first_once listed.InEachScope (ways objects (λ rule. allows rule p) (all_bindings objects))
 
-pub each_risk_once : (objects : PolicyObjects) → IsEachOnce listed.Once (risks objects)
+pub each_risk_once : (objects : PolicyObjects) → IsEachOnce listed.InEachScope (risks objects)
 unfolding risks
-each_risk_once objects = first_once listed.Once (ways objects is_risky (all_bindings objects))
+each_risk_once objects = first_once listed.InEachScope (ways objects is_risky (all_bindings objects))

@@ -3,7 +3,6 @@ use Rattle.std.proofs.Common.{◌≡◌, ◌⊎◌, inl, inr, ℕ, Bool, true, f
 use Rattle.std.proofs.Math.Dec.{eqb-suc-zero}
 use Rattle.std.proofs.lemmas.Bool.{and_parts, or_cases, or_left, or_right, or_parts, eqb-true, false_from_ne_true, and_from}
 use Rattle.std.specs.List.{list_any}
-use Rattle.std.specs.Option.{unwrap_or}
 use Rattle.std.specs.Str.{bytes_eq}
 use Rattle.kapi_model.specs.Kinds.{rbac_group}
 use Rattle.kapi_model.specs.declared.kinds.RoleKind.{RoleKind}
@@ -14,26 +13,22 @@ use Rattle.kapi_model.specs.Identities.{is_master}
 use Rattle.kapi_model.specs.declared.identity.Identity.{Identity}
 use Rattle.kapi_rules.proofs.Covers.{itself, same}
 use Rattle.kapi_rules.proofs.Law.{any_weaker}
-use Rattle.kapi_rules.proofs.Parts.{any_flat_map}
 use Rattle.kapi_rules.specs.Entries.{names_match, resource_matches, star, word_matches}
 use Rattle.kapi_rules.specs.Rules.{allows}
 use Rattle.kapi_rules.specs.declared.point.Point.{Point}
 use Rattle.kapi_rules.specs.declared.point.Point.TheVariants as point
-use Rattle.kapi_policy.specs.All.{all_bindings}
-use Rattle.kapi_policy.specs.Decided.{Binding, bindings_in, given, held}
+use Rattle.kapi_policy.specs.Decided.{held}
 use Rattle.kapi_policy.specs.Objects.{PolicyObjects}
-use Rattle.kapi_access.proofs.Bound.{counted, counts_there, given_named}
+use Rattle.kapi_access.proofs.Anywhere.{held_there}
 use Rattle.kapi_access.proofs.Held.{may_by, rule_of_may}
-use Rattle.kapi_gains.proofs.Elements.{has_part, part_of, passing}
+use Rattle.kapi_gains.proofs.Elements.{passing}
 use Rattle.kapi_aggregation.proofs.Lists.{some_at}
 use Rattle.kapi_access.specs.Grantees.{matches}
 use Rattle.kapi_access.specs.Risks.{authentication_group, goes_on_after, has_word, impersonating_detail, is_about_details, is_about_users, is_risky, IsImpersonation, IsWithoutRisk, lets_impersonate, lets_on_roles, matches_extra, risks}
 use Rattle.kapi_gains.specs.Access.{IsUnprivileged, may, verb_of}
 use Rattle.kapi_guard.specs.Exempt.{binding, escalating, role_point}
 use Rattle.kapi_guard.specs.Impersonation.{impersonating}
-use Rattle.kapi_aggregation.specs.Members.{Has}
-use Rattle.kapi_access.specs.Who.{Way, is_named, ways, ways_of}
-use Rattle.kapi_access.proofs.First.{first_named}
+use Rattle.kapi_access.specs.Who.{Way, counts, is_named, is_named_in}
 
 -- what is risky
 pub data Danger : Point → Type 0 where
@@ -258,61 +253,47 @@ allowing_is_risky p rule (Danger.impersonates q asked) h = or_left (lets_imperso
 -- ---- who is listed
 
 module _ (objects : PolicyObjects) (identity : Identity) where
-  never : IsWithoutRisk objects identity → (namespace : List ℕ) (p : Point) → Danger p → may objects identity namespace p ≡ false
-  never riskless namespace p (Danger.escalates kind name) = riskless.no_escalate namespace kind name
-  never riskless namespace p (Danger.binds role) = riskless.no_bind namespace role
-  never riskless namespace p (Danger.impersonates q asked) = riskless.no_impersonate namespace p asked
+  module _ (namespace : List ℕ) where
+    listed_there : is_named_in namespace (risks objects) identity ≡ list_any is_risky (held objects identity namespace)
+    unfolding risks
+    listed_there = sym (held_there identity namespace objects is_risky)
 
-  abbrev named_at : Binding → Bool
-  named_at b = is_named (ways_of objects is_risky b) identity
+    never : IsWithoutRisk objects identity namespace → (p : Point) → Danger p → may objects identity namespace p ≡ false
+    never riskless p (Danger.escalates kind name) = riskless.no_escalate kind name
+    never riskless p (Danger.binds role) = riskless.no_bind role
+    never riskless p (Danger.impersonates q asked) = riskless.no_impersonate p asked
 
-  listed_at : is_named (risks objects) identity ≡ list_any named_at (all_bindings objects)
-  unfolding risks
-  listed_at =
-      first_named identity (ways objects is_risky (all_bindings objects))
-      ∙ any_flat_map (λ (w : Way). matches w.to identity) (ways_of objects is_risky) (all_bindings objects)
+    -- who is named may do something dangerous
+    named_may : is_named_in namespace (risks objects) identity ≡ true → (p : Point) × (Danger p × (may objects identity namespace p ≡ true))
+    unfolding DangerBy
+    named_may named =
+        let rule = passing is_risky (held objects identity namespace) (sym listed_there ∙ named) in
+        let danger = risky_allows rule.0 rule.1.1 in
+        (danger.0, (danger.1.0, may_by objects identity namespace danger.0 rule.0 rule.1.0 danger.1.1))
 
-  -- who is named may do something dangerous
-  named_may : (b : Binding) → Has (all_bindings objects) b → named_at b ≡ true → (p : Point) × (Danger p × (may objects identity b.namespace p ≡ true))
-  unfolding held DangerBy
-  named_may b stands named =
-      let rule = passing is_risky (unwrap_or (given objects identity b) []) (given_named objects identity is_risky b ∙ named) in
-      let danger = risky_allows rule.0 rule.1.1 in (
-        danger.0,
-        (
-          danger.1.0,
-          may_by objects identity b.namespace danger.0 rule.0
-              (has_part (λ b. unwrap_or (given objects identity b) []) (bindings_in objects b.namespace) b rule.0 (counts_there objects b stands) rule.1.0) danger.1.1,
-        ),
-      )
+    -- who may do something dangerous and is no master is named
+    may_named : (p : Point) → is_master identity ≡ false → Danger p → may objects identity namespace p ≡ true → is_named_in namespace (risks objects) identity ≡ true
+    may_named p plain danger allowed =
+        let rule = rule_of_may objects identity namespace p allowed plain in
+        listed_there ∙ some_at is_risky (held objects identity namespace) rule.0 rule.1.0 (allowing_is_risky p rule.0 danger rule.1.1)
 
-  -- who may do something dangerous and is no master is named
-  may_named : (namespace : List ℕ) (p : Point) → is_master identity ≡ false → Danger p → may objects identity namespace p ≡ true → is_named (risks objects) identity ≡ true
-  unfolding held
-  may_named namespace p plain danger allowed =
-      let rule = rule_of_may objects identity namespace p allowed plain in
-      let b = part_of (λ b. unwrap_or (given objects identity b) []) (bindings_in objects namespace) rule.0 rule.1.0 in
-      listed_at ∙ some_at named_at (all_bindings objects) b.0 (counted objects namespace b.0 b.1.0)
-      (sym (given_named objects identity is_risky b.0) ∙ some_at is_risky (unwrap_or (given objects identity b.0) []) rule.0 b.1.1 (allowing_is_risky p rule.0 danger rule.1.1))
+    pub riskless_is_unlisted : IsWithoutRisk objects identity namespace → (is_master identity || is_named_in namespace (risks objects) identity) ≡ false
+    riskless_is_unlisted riskless =
+        rw riskless.no_master (false_from_ne_true _ (λ named.
+        let danger = named_may named in
+        absurd (let not_so = never riskless danger.0 danger.1.0 in let so = danger.1.1 in cc)))
 
-  pub riskless_is_unlisted : IsWithoutRisk objects identity → (is_master identity || is_named (risks objects) identity) ≡ false
-  riskless_is_unlisted riskless =
-      rw riskless.no_master (false_from_ne_true _ (λ named.
-      let b = passing named_at (all_bindings objects) (sym listed_at ∙ named) in
-      let danger = named_may b.0 b.1.0 b.1.1 in
-      absurd (let not_so = never riskless b.0.namespace danger.0 danger.1.0 in let so = danger.1.1 in cc)))
-
-  pub unlisted_is_riskless : (is_master identity || is_named (risks objects) identity) ≡ false → IsWithoutRisk objects identity
-  unlisted_is_riskless unlisted =
-      let parts = or_parts (is_master identity) (is_named (risks objects) identity) unlisted in
-      let none : (namespace : List ℕ) (p : Point) → Danger p → may objects identity namespace p ≡ false =
-      (λ namespace p danger. false_from_ne_true _ (λ allowed. absurd (let named = may_named namespace p parts.0 danger allowed in let not_so = parts.1 in cc))) in
-      record {
-        no_master = parts.0;
-        no_escalate = λ namespace kind name. none namespace (escalating kind name) (Danger.escalates kind name);
-        no_bind = λ namespace role. none namespace (binding role) (Danger.binds role);
-        no_impersonate = λ namespace p asked. none namespace p (Danger.impersonates p asked);
-      }
+    pub unlisted_is_riskless : (is_master identity || is_named_in namespace (risks objects) identity) ≡ false → IsWithoutRisk objects identity namespace
+    unlisted_is_riskless unlisted =
+        let parts = or_parts (is_master identity) (is_named_in namespace (risks objects) identity) unlisted in
+        let none : (p : Point) → Danger p → may objects identity namespace p ≡ false =
+        (λ p danger. false_from_ne_true _ (λ allowed. absurd (let named = may_named p parts.0 danger allowed in let not_so = parts.1 in cc))) in
+        record {
+          no_master = parts.0;
+          no_escalate = λ kind name. none (escalating kind name) (Danger.escalates kind name);
+          no_bind = λ role. none (binding role) (Danger.binds role);
+          no_impersonate = λ p asked. none p (Danger.impersonates p asked);
+        }
 
   verb_asked : (p : Point) → IsImpersonation p → verb_of p ≡ codes "impersonate"
   verb_asked p (IsImpersonation.of_user name) = refl
@@ -321,12 +302,21 @@ module _ (objects : PolicyObjects) (identity : Identity) where
   verb_asked p (IsImpersonation.of_uid name) = refl
   verb_asked p (IsImpersonation.of_extra field value) = refl
 
-  -- who is unprivileged may impersonate nothing at all
+  -- who is unprivileged may impersonate nothing at all; a line that names somebody counts where its binding does
   pub unprivileged_is_unlisted : IsUnprivileged objects identity → (is_master identity || is_named (risks objects) identity) ≡ false
   unprivileged_is_unlisted unprivileged =
-      riskless_is_unlisted (record {
+      rw unprivileged.no_master (false_from_ne_true _ (λ named.
+      let line = passing (λ (w : Way). matches w.to identity) (risks objects) named in
+      let there = line.0.binding.namespace in
+      let named_there = some_at (λ (w : Way). matches w.to identity && counts there w.binding) (risks objects) line.0 line.1.0
+      (and_from _ _ line.1.1 (or_right (length there == 0) (bytes_eq there there) (itself there))) in
+      let danger = named_may there named_there in
+      absurd (let not_so = never there (without there) danger.0 danger.1.0 in let so = danger.1.1 in cc)))
+    where
+      without : (namespace : List ℕ) → IsWithoutRisk objects identity namespace
+      without namespace = record {
         no_master = unprivileged.no_master;
-        no_escalate = unprivileged.no_escalate;
-        no_bind = unprivileged.no_bind;
-        no_impersonate = λ namespace p asked. unprivileged.no_impersonate namespace p (verb_asked p asked);
-      })
+        no_escalate = unprivileged.no_escalate namespace;
+        no_bind = unprivileged.no_bind namespace;
+        no_impersonate = λ p asked. unprivileged.no_impersonate namespace p (verb_asked p asked);
+      }

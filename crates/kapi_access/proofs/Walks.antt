@@ -85,9 +85,9 @@ module _ (objects : PolicyObjects) (p : Point) (list : List BoundBy) (all : map 
   who_by_all scope.Cluster = ap (first_ways listed.Once) (walked scope.Cluster ∙ all_count (ways_of objects (λ rule. allows rule p)) objects [])
   who_by_all scope.Everywhere = ap (first_ways listed.InEachScope) (walked scope.Everywhere)
 
-pub risks_by_all : (objects : PolicyObjects) (list : List BoundBy) → map binding_of list ≡ all_bindings objects → first_ways listed.Once (flat_map (λ b. ways_of objects is_risky (binding_of b)) list) ≡ risks objects
+pub risks_by_all : (objects : PolicyObjects) (list : List BoundBy) → map binding_of list ≡ all_bindings objects → first_ways listed.InEachScope (flat_map (λ b. ways_of objects is_risky (binding_of b)) list) ≡ risks objects
 unfolding risks
-risks_by_all objects list all = ap (first_ways listed.Once) (flat_map_map (ways_of objects is_risky) binding_of list ∙ ap (λ l. flat_map (ways_of objects is_risky) l) all)
+risks_by_all objects list all = ap (first_ways listed.InEachScope) (flat_map_map (ways_of objects is_risky) binding_of list ∙ ap (λ l. flat_map (ways_of objects is_risky) l) all)
 
 pub lines_alike : (to : Grantee) (b : Binding) (rule : ℕ) (list : List Atom) → flat_map (line_for to b rule) list ≡ map (λ a. record { to = to; binding = b; rule = rule; gain = a }) (filter can_match list)
 unfolding line_for

@@ -63,9 +63,9 @@ lets_on_roles verb rule =
 unfoldable pub is_risky : PolicyRule → Bool
 is_risky rule = lets_impersonate rule || (lets_on_roles (codes "escalate") rule || lets_on_roles (codes "bind") rule)
 
--- to whom such a rule is given anywhere, members of `system:masters` apart
+-- to whom such a rule is given anywhere, once in each scope in which a binding gives it, members of `system:masters` apart
 unfoldable pub risks : PolicyObjects → List Way
-risks objects = first_ways listed.Once (ways objects is_risky (all_bindings objects))
+risks objects = first_ways listed.InEachScope (ways objects is_risky (all_bindings objects))
 
 -- some entry is `*` or one of the words
 abbrev pub has_one_of : List (List ℕ) → List ℕ → List ℕ → List ℕ → Bool
@@ -92,10 +92,10 @@ pub data IsImpersonation : Point → Type 0 where
   of_uid : (name : List ℕ) → IsImpersonation (impersonating_detail (codes "uids") [] name)
   of_extra : (field value : List ℕ) → IsImpersonation (impersonating_detail (codes "userextras") field value)
 
--- the identity is no master, and may in no namespace, nor cluster-wide, write or bind a role whose rules it does not hold, nor
--- impersonate anybody
-pub record IsWithoutRisk (objects : PolicyObjects) (identity : Identity) : Type 0 where
+-- the identity is no master, and may not in the namespace, or cluster-wide if that is empty, write or bind a role whose rules it
+-- does not hold, nor impersonate anybody
+pub record IsWithoutRisk (objects : PolicyObjects) (identity : Identity) (namespace : List ℕ) : Type 0 where
   pub no_master : is_master identity ≡ false
-  pub no_escalate : (namespace : List ℕ) (kind : RoleKind) (name : List ℕ) → may objects identity namespace (escalating kind name) ≡ false
-  pub no_bind : (namespace : List ℕ) (role : RoleRef) → may objects identity namespace (binding role) ≡ false
-  pub no_impersonate : (namespace : List ℕ) (p : Point) → IsImpersonation p → may objects identity namespace p ≡ false
+  pub no_escalate : (kind : RoleKind) (name : List ℕ) → may objects identity namespace (escalating kind name) ≡ false
+  pub no_bind : (role : RoleRef) → may objects identity namespace (binding role) ≡ false
+  pub no_impersonate : (p : Point) → IsImpersonation p → may objects identity namespace p ≡ false

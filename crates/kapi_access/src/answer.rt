@@ -152,7 +152,7 @@ fn ways_text(alloc: Global, form: Form, ways: Vec<Way<'_>>) -> Result<Vec<u8>, M
     report(alloc, form, &heads, "", &[masters], others.as_slice())
 }
 
-/// Who may do what is asked, given all bindings of the policy: a line for each user and group and each binding by which it may.
+/// Who may do what is asked, given all bindings of the policy: a line for each user and group, or everywhere one for each scope.
 pub fn answer_who<P: Policy>(
     alloc: Global,
     form: Form,
@@ -167,7 +167,7 @@ pub fn answer_who<P: Policy>(
     ways_text(alloc, form, list)
 }
 
-/// Who may gain more than the policy gives, given all its bindings: a line for each user and group and each binding by which it may.
+/// Who may gain more than the policy gives, given all its bindings: a line for each user and group and each scope in which it may.
 pub fn answer_risks<P: Policy>(
     alloc: Global,
     form: Form,

@@ -40,23 +40,23 @@ pub fn who_may_is_who_is_listed_anywhere()
         → may objects identity namespace p ≡ (is_master identity || is_named_in namespace (who_anywhere objects p) identity) }
 {}
 
-/// An identity may do nothing risky exactly if it is not in `system:masters` and no line of the risks names it. Who is unprivileged,
-/// and so has the verb `impersonate` on no resource at all, is not listed either.
+/// An identity may do nothing risky in a namespace exactly if it is not in `system:masters` and no line of the risks names it whose
+/// binding counts there; cluster-wide, which is the empty namespace, if no line with a cluster-wide binding does. Who is
+/// unprivileged, and so has the verb `impersonate` on no resource at all, no line names.
 pub fn risks_are_who_is_listed()
-    ensures unlisted { (objects : PolicyObjects) (identity : Identity)
-        → IsWithoutRisk objects identity → (is_master identity || is_named (risks objects) identity) ≡ false }
-    ensures riskless { (objects : PolicyObjects) (identity : Identity)
-        → (is_master identity || is_named (risks objects) identity) ≡ false → IsWithoutRisk objects identity }
+    ensures unlisted { (objects : PolicyObjects) (identity : Identity) (namespace : List ℕ)
+        → IsWithoutRisk objects identity namespace → (is_master identity || is_named_in namespace (risks objects) identity) ≡ false }
+    ensures riskless { (objects : PolicyObjects) (identity : Identity) (namespace : List ℕ)
+        → (is_master identity || is_named_in namespace (risks objects) identity) ≡ false → IsWithoutRisk objects identity namespace }
     ensures unprivileged { (objects : PolicyObjects) (identity : Identity)
         → IsUnprivileged objects identity → (is_master identity || is_named (risks objects) identity) ≡ false }
 {}
 
-/// No user and no group is listed twice, neither among those who may nor among the risks; of those who may anywhere, not in the same
-/// scope.
+/// No user and no group is listed twice among those who may, nor twice in the same scope among those who may anywhere and the risks.
 pub fn each_is_listed_once()
     ensures who { (objects : PolicyObjects) (namespace : List ℕ) (p : Point) → IsEachOnce Listed.Once (who_may objects namespace p) }
     ensures anywhere { (objects : PolicyObjects) (p : Point) → IsEachOnce Listed.InEachScope (who_anywhere objects p) }
-    ensures risks { (objects : PolicyObjects) → IsEachOnce Listed.Once (risks objects) }
+    ensures risks { (objects : PolicyObjects) → IsEachOnce Listed.InEachScope (risks objects) }
 {}
 
 /// If the policy is settled and everybody who writes is unprivileged, nobody gains what no actor held. It says nothing of a

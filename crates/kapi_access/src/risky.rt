@@ -151,9 +151,9 @@ fn ways<'a, P: Policy>(
     policy: &P,
     bindings: &[Binding<'a>],
 ) -> Result<Vec<Way<'a>>, Memory>
-    ensures { IfOk result (λ v. map way_of v.items ≡ first_ways Listed.Once (flat_map (λ b. ways_of (P.content policy.now) is_risky_rule (binding_of b)) bindings.now)) }
+    ensures { IfOk result (λ v. map way_of v.items ≡ first_ways Listed.InEachScope (flat_map (λ b. ways_of (P.content policy.now) is_risky_rule (binding_of b)) bindings.now)) }
 {
-    let mut found = FirstWays::new(alloc, Listed::Once);
+    let mut found = FirstWays::new(alloc, Listed::InEachScope);
     for binding in bindings {
         push_risks(alloc, &mut found, policy, binding)?;
     }
@@ -161,7 +161,7 @@ fn ways<'a, P: Policy>(
 }
 
 /// Who may write or bind roles whose rules one does not hold, or act as somebody else, anywhere, given all bindings of the policy:
-/// each user and group once, with the first binding by which it may, and the first such rule of its role.
+/// each user and group once in each scope, with the first binding there by which it may, and the first such rule of its role.
 pub fn risks<'a, P: Policy>(
     alloc: Global,
     policy: &P,

@@ -9,4 +9,4 @@ use Rattle.kapi_access.proofs.risky.ways.Given as goal
 abbrev pub invariant-loop-binding : goal.invariant-loop-binding
 invariant-loop-binding g l =
     l.found
-    ≡ fold with_way (record { listed = listed.Once; list = [] }) (flat_map (λ b. ways_of (g.P.Policy.content l.policy) is_risky (binding_of b)) (take l.binding-index l.bindings))
+    ≡ fold with_way (record { listed = listed.InEachScope; list = [] }) (flat_map (λ b. ways_of (g.P.Policy.content l.policy) is_risky (binding_of b)) (take l.binding-index l.bindings))
