@@ -42,6 +42,7 @@ BEFORE = item("Namespace", "shop") + SEER + READER + READERS
 AFTER = BEFORE.replace("delete", "list") + binding("ClusterRoleBinding", "olga-sees", "ClusterRole seer", "User olga")
 ACTORS = role("Role", "actor", "impersonate", "users") + binding("RoleBinding", "actors", "Role actor", "User bob")
 TWO = [rule(it, "pods") for it in ("get", "get list")]
+HEALTH = item("ClusterRole", "health", rules=[{"nonResourceURLs": ["/healthz"], "verbs": ["get"]}])
 DANGLES = item("ServiceAccount", "shop/till") + role("Role", "shop/idle", "get", "pods") + item("Role", "shop/two", rules=TWO) + binding("RoleBinding", "shop/twos", "Role two", "ServiceAccount robot") \
     + role("ClusterRole", "typo", "get", "podz") + binding("ClusterRoleBinding", "typos", "ClusterRole typo", "User ann")
 QUESTIONS = question("ann", "list", "pods") + question("ann", "delete", "pods") + question("bob", "get", "pods") + question("ann", "get", "pods").rstrip()
@@ -67,6 +68,7 @@ FILES = {
     "homeless": ACTORS, "more": ACTORS + binding("RoleBinding", "others", "Role actor", "User eve"),
     "twice": "".join(role("Role", f"{it}/actor", "impersonate", "users") + binding("RoleBinding", f"{it}/actors", "Role actor", "User bob") for it in ("shop", "web"))
     + binding("RoleBinding", "shop/again", "Role actor", "User ann", "User bob") + binding("RoleBinding", "web/more", "Role actor", "User bob"),
+    "health": HEALTH, "there": HEALTH + binding("RoleBinding", "shop/all", "ClusterRole health", "User ann"), "wide": HEALTH + binding("ClusterRoleBinding", "all", "ClusterRole health", "User ann"),
     "named": role("Role", "shop/reader", "get", "pods", "a") + READERS.rstrip(), "map": MAP["b"], "maps": MAP["a"] + MAP["b"].rstrip(),
     "folder/1.json": compact({"kind": "List", "items": [json.loads(it) for it in SEER.splitlines()]}),
     "folder/2.jsonl": READER.rstrip(), "folder/3.jsonl": READERS.rstrip(), "folder/.notes": "not read",
@@ -152,6 +154,11 @@ CASES = [
     case("compare --format table before after", gains(OLGA, LIST), 3), case("compare --format text before after", "", 2),
     *[case(it, "", 1) for it in ("compare homeless more", "who homeless impersonate users", "risks homeless")],
     *[case(f"compare homeless more --namespace {it}", gains(EVE.format(it)), 3) for it in ("shop", "web")],
+    case("compare health there", "Nobody gains.\n"), case("compare health wide", gains("User ann | * | get /healthz | ClusterRoleBinding all, ClusterRole health, rule 0"), 3),
+    *[case(it, rights()) for it in ("what there ann", "what there ann --namespace shop")],
+    *[case(it, rights("get | /healthz | - | * | ClusterRoleBinding all, ClusterRole health, rule 0")) for it in ("what wide ann", "what wide ann --namespace shop")],
+    *[case(f"who there get /healthz {it}", ways()) for it in ("", "--namespace shop")],
+    case("who wide get /healthz --namespace shop", ways("User ann | * | ClusterRoleBinding all | ClusterRole health, rule 0")),
     *[case(f"who after list pods {it}", ways(*[ANN] * (it in ("", "--namespace shop")))) for it in ("", "--namespace shop", "--namespace web", "--cluster")],
     case("who after list po --namespace shop", ways(ANN)), case("who after list pods --namespace shop --cluster", "", 2),
     *[case(f"who after list pods --namespace shop {it}", f"{JSON}{{{BY}") for it in ("--json", "--strict --json")],

@@ -1,6 +1,5 @@
 -- Lines by rules cover what lines by atoms cover.
 use Rattle.std.proofs.Common.{◌≡◌, ◌⊎◌, inl, inr, ℕ, Bool, true, false, cond, not, ◌&&◌, ◌||◌, ◌==◌, if◌then◌else◌, List, [], ◌∷◌, ◌++◌, length, refl, sym, ap, subst, ◌∙◌}
-use Rattle.std.proofs.Math.Dec.{eqb-suc-zero}
 use Rattle.std.proofs.lemmas.Bool.{and_from, and_parts, or_cases, or_left, or_right}
 use Rattle.std.proofs.lemmas.List.Folds.{list_any-append}
 use Rattle.std.specs.List.{filter, flat_map, fold, list_any}
@@ -16,6 +15,7 @@ use Rattle.kapi_rules.specs.declared.point.Point.{Point}
 use Rattle.kapi_policy.specs.Decided.{Binding}
 use Rattle.kapi_aggregation.proofs.Lists.{some_at}
 use Rattle.kapi_gains.proofs.Elements.{passing}
+use Rattle.kapi_object.proofs.Clean.{none_if}
 use Rattle.kapi_access.specs.Answers.{grave_first}
 use Rattle.kapi_access.specs.Gained.{Gained, GainedAtoms, GainedRule, IsReported, IsReportedByRule, by_rule, is_alike, rules_gained, with_gain}
 use Rattle.kapi_access.specs.Grantees.{matches}
@@ -68,10 +68,6 @@ parted f test (x ∷ xs) = by_test (test x) (list_any f (filter test xs)) (list_
 
 -- ---- where bindings count
 
-empty : (t : List ℕ) → (length t == 0) ≡ true → t ≡ []
-empty [] h = refl
-empty (b ∷ t) h = absurd (let never = rw (eqb-suc-zero (length t)) at h in cc)
-
 counted : (namespace : List ℕ) (b : Binding) → (b.namespace ≡ []) ⊎ (b.namespace ≡ namespace) → counts namespace b ≡ true
 counted namespace b (inl wide) = or_left _ _ (ap (λ (n : List ℕ). length n == 0) wide)
 counted namespace b (inr there) = or_right _ _ (subst (λ n. bytes_eq b.namespace n ≡ true) there (itself b.namespace))
@@ -80,7 +76,7 @@ where_counted : (namespace : List ℕ) (b : Binding) → counts namespace b ≡ 
 where_counted namespace b h = by_case (or_cases (length b.namespace == 0) (bytes_eq b.namespace namespace) h)
   where
     by_case : ((length b.namespace == 0) ≡ true) ⊎ (bytes_eq b.namespace namespace ≡ true) → (b.namespace ≡ []) ⊎ (b.namespace ≡ namespace)
-    by_case (inl wide) = inl (empty b.namespace wide)
+    by_case (inl wide) = inl (none_if b.namespace wide)
     by_case (inr there) = inr (same b.namespace namespace there)
 
 module _ (identity : Identity) (namespace : List ℕ) (p : Point) where

@@ -1,6 +1,5 @@
 -- Rules covered by others of their role, and the places that bindings refer to.
 use Rattle.std.proofs.Common.{◌≡◌, inl, inr, ℕ, ◌+◌, ◌<◌, Bool, true, false, cond, not, ◌||◌, ◌==◌, if◌then◌else◌, List, [], ◌∷◌, ◌++◌, length, map, take, get_or, Option, Some, None, refl, sym, ap, subst, ◌∙◌, add-one, append-nil}
-use Rattle.std.proofs.Math.Dec.{eqb-suc-zero}
 use Rattle.std.proofs.Math.Seq.{take-suc}
 use Rattle.std.proofs.lemmas.Bool.{and_parts, not-true}
 use Rattle.std.proofs.lemmas.Grind.{flat_map-append}
@@ -18,6 +17,7 @@ use Rattle.kapi_text.proofs.Booleans.{cond_or, turned}
 use Rattle.kapi_model.specs.declared.policy_rule.PolicyRule.{PolicyRule}
 use Rattle.kapi_rules.proofs.Law.{none_missing}
 use Rattle.kapi_rules.specs.Missing.{CoversAll, missing}
+use Rattle.kapi_object.proofs.Clean.{none_if}
 use Rattle.kapi_policy.specs.Decided.{Binding}
 use Rattle.kapi_policy.specs.Objects.{place_cmp}
 use Rattle.kapi_policy.specs.Views.{binding_of}
@@ -65,12 +65,8 @@ bound_more old new list i b below is had put q =
 
 -- ---- rules
 
-nothing_left : {X : Type 0} (list : List X) → (length list == 0) ≡ true → list ≡ []
-nothing_left [] h = refl
-nothing_left (x ∷ list) h = absurd (let never = sym (eqb-suc-zero (length list)) ∙ h in cc)
-
 covers_is : (one other : PolicyRule) → covers one other ≡ true → CoversAll (one ∷ []) (other ∷ [])
-covers_is one other h = none_missing (one ∷ []) (other ∷ []) (nothing_left (missing (one ∷ []) (other ∷ [])) h)
+covers_is one other h = none_missing (one ∷ []) (other ∷ []) (none_if (missing (one ∷ []) (other ∷ [])) h)
 
 -- the index is of a rule in the list, which stands for the given one
 record IsFirst (i : ℕ) (rule : PolicyRule) (list : List (ℕ × PolicyRule)) (j : ℕ) : Type 0 where

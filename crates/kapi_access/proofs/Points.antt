@@ -20,7 +20,9 @@ use Rattle.kapi_rules.specs.declared.atom.Names.{Names}
 use Rattle.kapi_rules.specs.declared.atom.Names.TheVariants as names
 use Rattle.kapi_rules.specs.declared.point.Point.{Point}
 use Rattle.kapi_rules.specs.declared.point.Point.TheVariants as point
+use Rattle.kapi_object.proofs.Clean.{none_if}
 use Rattle.kapi_access.specs.Gained.{can_match, is_nothing}
+use Rattle.kapi_access.specs.Who.{IsRequest}
 
 -- ---- the parts of a resource
 
@@ -95,18 +97,23 @@ unfolding request_of
 plain_request other (atom.Resource a) = plain_before a.resource
 plain_request other (atom.Url a) = tt
 
+pub asked_request : (other namespace : List ℕ) (a : Atom) → can_match namespace a ≡ true → IsRequest namespace (request_of other a)
+unfolding request_of
+asked_request other namespace (atom.Resource a) can = tt
+asked_request other namespace (atom.Url a) can = none_if namespace can
+
 own_name : (other : List ℕ) (n : Names) → names_allow n (name_in other n) ≡ true
 unfolding name_in
 own_name other names.All = refl
 own_name other (names.One name) = itself name
 
-pub allows_own : (other : List ℕ) (a : Atom) → can_match a ≡ true → atom_allows a (request_of other a) ≡ true
+pub allows_own : (other namespace : List ℕ) (a : Atom) → can_match namespace a ≡ true → atom_allows a (request_of other a) ≡ true
 unfolding request_of
-allows_own other (atom.Resource a) can =
+allows_own other namespace (atom.Resource a) can =
     and_from _ _ (or_right (bytes_eq a.verb star) (bytes_eq a.verb a.verb) (itself a.verb))
     (and_from _ _ (or_right (bytes_eq a.group star) (bytes_eq a.group a.group) (itself a.group))
     (and_from _ _ (own_parts a.resource (after_slash a.resource) refl (not-true _ can)) (own_name other a.names)))
-allows_own other (atom.Url a) can =
+allows_own other namespace (atom.Url a) can =
     and_from _ _ (or_right (bytes_eq a.verb star) (bytes_eq a.verb a.verb) (itself a.verb)) (or_left (bytes_eq a.url a.url) _ (itself a.url))
 
 names_back : (other : List ℕ) (listed : List (List ℕ)) (n : Names) → list_any (λ x. bytes_eq x other) listed ≡ false → names_match listed (name_in other n) ≡ true → listed_cover listed n ≡ true
@@ -118,17 +125,17 @@ names_back other listed names.All none h = by_length (length listed == 0) (let i
 names_back other listed (names.One name) none h = h
 
 -- a rule that allows the request of an atom implies the atom, if the rule does not list the name
-pub implies_back : (other : List ℕ) (rule : PolicyRule) (a : Atom) → list_any (λ x. bytes_eq x other) rule.resource_names ≡ false → can_match a ≡ true
+pub implies_back : (other namespace : List ℕ) (rule : PolicyRule) (a : Atom) → list_any (λ x. bytes_eq x other) rule.resource_names ≡ false → can_match namespace a ≡ true
     → allows rule (request_of other a) ≡ true → rule_implies rule a ≡ true
 unfolding request_of
-implies_back other rule (atom.Resource a) none can h =
+implies_back other namespace rule (atom.Resource a) none can h =
     let one = and_parts _ _ h in
     let two = and_parts _ _ one.1 in
     let three = and_parts _ _ two.1 in
     rule_implies_resource rule a
     ∙ and_from _ _ one.0 (and_from _ _ two.0 (and_from _ _ (any_weaker (λ e. resource_matches e (before_slash a.resource) (behind (after_slash a.resource))) (λ e. resource_covers e a.resource) rule.resources
     (λ e m. covers_whole e a.resource (after_slash a.resource) refl (not-true _ can) m) three.0) (names_back other rule.resource_names a.names none three.1)))
-implies_back other rule (atom.Url a) none can h = rule_implies_url rule a ∙ h
+implies_back other namespace rule (atom.Url a) none can h = rule_implies_url rule a ∙ h
 
 -- ---- what requests match
 
@@ -163,11 +170,13 @@ matched e r (c ∷ s) plain h = by_case (or_cases (word_matches e (r ++ 47 ∷ c
     by_case (inl w) = matched_word e (r ++ 47 ∷ c ∷ s) (Some (c ∷ s)) w (slash_joined r (c ∷ s) plain) refl
     by_case (inr any) = rw (same e (42 ∷ 47 ∷ c ∷ s) any) refl
 
-pub matched_can : (a : Atom) (p : Point) → HasPlainResource p → atom_allows a p ≡ true → can_match a ≡ true
-matched_can (atom.Resource a) (point.Resource p) plain h =
+pub matched_can : (scope namespace : List ℕ) (a : Atom) (p : Point) → HasPlainResource p → IsRequest namespace p → (scope ≡ []) ⊎ (scope ≡ namespace) → atom_allows a p ≡ true → can_match scope a ≡ true
+matched_can scope namespace (atom.Resource a) (point.Resource p) plain asked there h =
     let one = and_parts _ _ h in
     let two = and_parts _ _ one.1 in
     let three = and_parts _ _ two.1 in
     ap not (matched a.resource p.resource p.subresource plain three.0)
-matched_can (atom.Resource a) (point.Url p) plain h = absurd cc
-matched_can (atom.Url a) p plain h = refl
+matched_can scope namespace (atom.Resource a) (point.Url p) plain asked there h = absurd cc
+matched_can scope namespace (atom.Url a) (point.Resource p) plain asked there h = absurd cc
+matched_can scope namespace (atom.Url a) (point.Url p) plain asked (inl wide) h = ap (λ (n : List ℕ). length n == 0) wide
+matched_can scope namespace (atom.Url a) (point.Url p) plain asked (inr one) h = ap (λ (n : List ℕ). length n == 0) (one ∙ asked)

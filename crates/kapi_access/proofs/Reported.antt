@@ -2,7 +2,6 @@
 use Rattle.std.proofs.Common.{◌≡◌, ◌⊎◌, inl, inr, ℕ, ◌+◌, Bool, true, false, not, if◌then◌else◌, List, [], ◌∷◌, ◌++◌, refl, sym, ap, subst, codes, ◌∙◌}
 use Rattle.std.proofs.lemmas.Bool.{and_parts, false_from_ne_true, and_from}
 use Rattle.std.specs.List.{enumerate_from, flat_map, list_any}
-use Rattle.kapi_text.proofs.Booleans.{or_false}
 use Rattle.kapi_model.specs.declared.policy_rule.PolicyRule.{PolicyRule}
 use Rattle.kapi_model.specs.Identities.{is_master}
 use Rattle.kapi_model.specs.declared.identity.Identity.{Identity}
@@ -21,18 +20,18 @@ use Rattle.kapi_policy.specs.Decided.{Binding, held}
 use Rattle.kapi_policy.specs.Objects.{PolicyObjects}
 use Rattle.kapi_access.proofs.Fresh.{fresh, none_lists}
 use Rattle.kapi_access.proofs.Held.{HoldsBy, holds, holds_by, masters_may, may_by, rule_of_may}
-use Rattle.kapi_access.proofs.Points.{allows_own, implies_back, matched_can, plain_request, request_of}
+use Rattle.kapi_access.proofs.Points.{allows_own, asked_request, implies_back, matched_can, plain_request, request_of}
 use Rattle.kapi_aggregation.proofs.Lists.{has_kept, has_mapped, kept_of, mapped_of, some_at}
 use Rattle.kapi_gains.proofs.Elements.{has_part, part_of, passing}
 use Rattle.kapi_gains.specs.Access.{may}
 use Rattle.kapi_aggregation.specs.Members.{Has}
 use Rattle.kapi_access.specs.declared.grantee.Grantee.{Grantee}
 use Rattle.kapi_access.specs.declared.identities.Identities.{Identities}
-use Rattle.kapi_access.specs.declared.identities.Identities.TheVariants as identities
 use Rattle.kapi_access.specs.Usual.{IsMeant}
 use Rattle.kapi_access.proofs.Usual.{alone_is_meant, alone_matches, in_too, matches_too}
 use Rattle.kapi_access.specs.Gained.{Gained, GivesNothingTo, IsGained, IsReported, can_match, gained, gained_by, gained_from, lines_by, lines_of, new_atoms}
 use Rattle.kapi_access.specs.Grantees.{alone, grantees, matches, role_of, unbound_user, whom}
+use Rattle.kapi_access.specs.Who.{IsRequest}
 
 -- ---- lists
 
@@ -73,18 +72,18 @@ has_same list a some =
     subst (λ x. Has list x) (sym ((same_decides a b.0).0 b.1.1)) b.1.0
 
 -- what is new is of the rule, and missing
-new_of : (own : List PolicyRule) (rule : PolicyRule) (a : Atom) → Has (new_atoms own rule) a → (can_match a ≡ true) × ((is_missing own a ≡ true) × Has (atoms rule) a)
+new_of : (namespace : List ℕ) (own : List PolicyRule) (rule : PolicyRule) (a : Atom) → Has (new_atoms namespace own rule) a → (can_match namespace a ≡ true) × ((is_missing own a ≡ true) × Has (atoms rule) a)
 unfolding new_atoms
-new_of own rule a has =
-    let kept = kept_of can_match (missing own (rule ∷ [])) a has in
+new_of namespace own rule a has =
+    let kept = kept_of (can_match namespace) (missing own (rule ∷ [])) a has in
     let there = some_at (same_atom a) (missing own (rule ∷ [])) a kept.0 ((same_decides a a).1 refl) in
     let parts = and_parts _ _ (sym (listed_exactly own (rule ∷ []) a) ∙ there) in
     (kept.1, (parts.0, subst (λ l. Has l a) (atoms_alone rule) (has_same (flat_map atoms (rule ∷ [])) a parts.1)))
 
-is_new : (own : List PolicyRule) (rule : PolicyRule) (a : Atom) → can_match a ≡ true → is_missing own a ≡ true → Has (atoms rule) a → Has (new_atoms own rule) a
+is_new : (namespace : List ℕ) (own : List PolicyRule) (rule : PolicyRule) (a : Atom) → can_match namespace a ≡ true → is_missing own a ≡ true → Has (atoms rule) a → Has (new_atoms namespace own rule) a
 unfolding new_atoms
-is_new own rule a can lacks has =
-    has_kept can_match (missing own (rule ∷ [])) a
+is_new namespace own rule a can lacks has =
+    has_kept (can_match namespace) (missing own (rule ∷ [])) a
     (has_same (missing own (rule ∷ [])) a (listed_exactly own (rule ∷ []) a ∙ and_from _ _ lacks (some_at (same_atom a) (flat_map atoms (rule ∷ [])) a (subst (λ l. Has l a) (sym (atoms_alone rule)) has) ((same_decides a a).1 refl)))) can
 
 -- a rule allows all that an atom does which it implies
@@ -125,14 +124,14 @@ module _ (who : Identities) (before after : PolicyObjects) where
   -- ---- lines
 
   line_of : (b : Binding) (to : Grantee) (n : ℕ) (rule : PolicyRule) (a : Atom) → Has (all_bindings after) b → Has (grantees b) to → Has (enumerate_from 0 (role_of after b)) (n, rule)
-      → is_master (alone who (unbound_user before) to) ≡ false → Has (new_atoms (held before (alone who (unbound_user before) to) b.namespace) rule) a
+      → is_master (alone who (unbound_user before) to) ≡ false → Has (new_atoms b.namespace (held before (alone who (unbound_user before) to) b.namespace) rule) a
       → Has (gained who before after) (record { to = to; binding = b; rule = n; gain = a })
   unfolding gained gained_from
   line_of b to n rule a stands bound numbered plain new =
       has_part (gained_from who before after) (all_bindings after) b _ stands
       (has_part (gained_by who before after b) (grantees b) to _ bound
       (rw plain (has_part (lines_by (held before (alone who (unbound_user before) to) b.namespace) to b) (enumerate_from 0 (role_of after b)) (n, rule) _ numbered
-      (has_mapped (λ (a : Atom). record { to = to; binding = b; rule = n; gain = a }) (new_atoms (held before (alone who (unbound_user before) to) b.namespace) rule) a new))))
+      (has_mapped (λ (a : Atom). record { to = to; binding = b; rule = n; gain = a }) (new_atoms b.namespace (held before (alone who (unbound_user before) to) b.namespace) rule) a new))))
 
   -- what stands behind a line
   record Behind (line : Gained) : Type 0 where
@@ -141,7 +140,7 @@ module _ (who : Identities) (before after : PolicyObjects) where
     pub plain : is_master (alone who (unbound_user before) line.to) ≡ false
     pub rule : PolicyRule
     pub listed : Has (role_of after line.binding) rule
-    pub new : Has (new_atoms (held before (alone who (unbound_user before) line.to) line.binding.namespace) rule) line.gain
+    pub new : Has (new_atoms line.binding.namespace (held before (alone who (unbound_user before) line.to) line.binding.namespace) rule) line.gain
 
   behind : (line : Gained) → Has (gained who before after) line → Behind line
   unfolding gained gained_from
@@ -158,18 +157,18 @@ module _ (who : Identities) (before after : PolicyObjects) where
       by_master true is never = absurd never
       by_master false is there =
           let numbered = part_of (lines_by (held before (alone who (unbound_user before) to.0) b.0.namespace) to.0 b.0) (enumerate_from 0 (role_of after b.0)) line there in
-          let a = mapped_of (λ (a : Atom). record { to = to.0; binding = b.0; rule = numbered.0.0; gain = a }) (new_atoms (held before (alone who (unbound_user before) to.0) b.0.namespace) numbered.0.1) line numbered.1.1 in
+          let a = mapped_of (λ (a : Atom). record { to = to.0; binding = b.0; rule = numbered.0.0; gain = a }) (new_atoms b.0.namespace (held before (alone who (unbound_user before) to.0) b.0.namespace) numbered.0.1) line numbered.1.1 in
           subst (λ (l : Gained). Behind l) a.1.1 (record { stands = b.1.0; bound = to.1.0; plain = is; rule = numbered.0.1; listed = numbered_of 0 (role_of after b.0) numbered.0 numbered.1.0; new = a.1.0 })
 
   -- ---- every gain is reported
 
-  pub every_gain_is_reported : (identity : Identity) (namespace : List ℕ) (p : Point) → IsMeant who identity → HasPlainResource p → may after identity namespace p ≡ true → may before identity namespace p ≡ false
+  pub every_gain_is_reported : (identity : Identity) (namespace : List ℕ) (p : Point) → IsMeant who identity → HasPlainResource p → IsRequest namespace p → may after identity namespace p ≡ true → may before identity namespace p ≡ false
       → IsReported (gained who before after) identity namespace p
-  every_gain_is_reported identity namespace p among plain now not_before =
+  every_gain_is_reported identity namespace p among plain asked now not_before =
       record {
         line = record { to = h.to; binding = h.by; rule = numbered.0; gain = a.0 };
         listed = line_of h.by h.to numbered.0 r.0 a.0 h.stands h.bound numbered.1 (false_from_ne_true _ (λ is. absurd (let allowed = masters_may before identity namespace p (in_too who (unbound_user before) h.to identity (codes "system:masters") among h.meant is) in cc)))
-            (is_new _ r.0 a.0 (matched_can a.0 p plain a.1.1) lacks a.1.0);
+            (is_new h.by.namespace _ r.0 a.0 (matched_can h.by.namespace namespace a.0 p plain asked h.there a.1.1) lacks a.1.0);
         meant = h.meant;
         there = h.there;
         allowed = a.1.1;
@@ -204,6 +203,7 @@ module _ (who : Identities) (before after : PolicyObjects) where
         among = alone_is_meant who before line.to;
         request = request;
         plain = plain_request (fresh own) line.gain;
+        asked = asked_request (fresh own) line.binding.namespace line.gain new.0;
         meant = alone_matches who (unbound_user before) line.to;
         by_atom = by_atom;
         now = now;
@@ -222,11 +222,11 @@ module _ (who : Identities) (before after : PolicyObjects) where
       request : Point
       request = request_of (fresh own) line.gain
 
-      new : (can_match line.gain ≡ true) × ((is_missing own line.gain ≡ true) × Has (atoms by.rule) line.gain)
-      new = new_of own by.rule line.gain by.new
+      new : (can_match line.binding.namespace line.gain ≡ true) × ((is_missing own line.gain ≡ true) × Has (atoms by.rule) line.gain)
+      new = new_of line.binding.namespace own by.rule line.gain by.new
 
       by_atom : atom_allows line.gain request ≡ true
-      by_atom = allows_own (fresh own) line.gain new.0
+      by_atom = allows_own (fresh own) line.binding.namespace line.gain new.0
 
       now : may after own_identity line.binding.namespace request ≡ true
       now = may_by after own_identity line.binding.namespace request by.rule
@@ -235,7 +235,7 @@ module _ (who : Identities) (before after : PolicyObjects) where
 
       never : ((rule : PolicyRule) × (Has own rule × (allows rule request ≡ true))) → ⊥
       never r =
-          not_true _ new.1.0 (some_at (λ rule. rule_implies rule line.gain) own r.0 r.1.0 (implies_back (fresh own) r.0 line.gain (none_lists own r.0 r.1.0) new.0 r.1.1))
+          not_true _ new.1.0 (some_at (λ rule. rule_implies rule line.gain) own r.0 r.1.0 (implies_back (fresh own) line.binding.namespace r.0 line.gain (none_lists own r.0 r.1.0) new.0 r.1.1))
 
   -- ---- nothing is listed exactly if nobody gains
 
@@ -243,35 +243,29 @@ module _ (who : Identities) (before after : PolicyObjects) where
   by_list list none identity namespace p r = subst (λ l. Has l r.line) none r.listed
 
   -- what one of them may do now it could do before
-  had : gained who before after ≡ [] → (identity : Identity) (namespace : List ℕ) (p : Point) → IsMeant who identity → HasPlainResource p → may after identity namespace p ≡ true → may before identity namespace p ≡ true
-  had none identity namespace p among plain now = by_case (may before identity namespace p) refl
+  had : gained who before after ≡ [] → (identity : Identity) (namespace : List ℕ) (p : Point) → IsMeant who identity → HasPlainResource p → IsRequest namespace p → may after identity namespace p ≡ true → may before identity namespace p ≡ true
+  had none identity namespace p among plain asked now = by_case (may before identity namespace p) refl
     where
       by_case : (m : Bool) → may before identity namespace p ≡ m → m ≡ true
       by_case true is = refl
-      by_case false is = absurd (by_list (gained who before after) none identity namespace p (every_gain_is_reported identity namespace p among plain now is))
+      by_case false is = absurd (by_list (gained who before after) none identity namespace p (every_gain_is_reported identity namespace p among plain asked now is))
 
-  no_lines : ((line : Gained) → IsGained who before after line → ⊥) → gained who before after ≡ []
-  no_lines never = none_has (gained who before after) (λ line has. never line (each_line_is_a_gain line has))
+  pub nothing_listed : gained who before after ≡ [] → GivesNothingTo who before after
+  nothing_listed none = had none
 
-pub nothing_listed : (who : Identities) (before after : PolicyObjects) → gained who before after ≡ [] → GivesNothingTo who before after
-nothing_listed identities.Any before after none =
-    λ identity namespace p plain now. or_false (may before identity namespace p) ∙ had identities.Any before after none identity namespace p tt plain now
-nothing_listed identities.Usual before after none = had identities.Usual before after none
-
-pub nobody_gains_anything : (who : Identities) (before after : PolicyObjects) → GivesNothingTo who before after → gained who before after ≡ []
-nobody_gains_anything identities.Any before after nothing =
-    no_lines identities.Any before after (λ line g. absurd (let had_it = sym (or_false (may before g.identity line.binding.namespace g.request)) ∙ nothing g.identity line.binding.namespace g.request g.plain g.now in let not_had = g.not_before in cc))
-nobody_gains_anything identities.Usual before after nothing =
-    no_lines identities.Usual before after (λ line g. absurd (let had_it = nothing g.identity line.binding.namespace g.request g.among g.plain g.now in let not_had = g.not_before in cc))
+  pub nobody_gains_anything : GivesNothingTo who before after → gained who before after ≡ []
+  nobody_gains_anything nothing = none_has (gained who before after) (λ line has.
+      let g = each_line_is_a_gain line has in
+      absurd (let had = nothing g.identity line.binding.namespace g.request g.among g.plain g.asked g.now in let not_had = g.not_before in cc))
 
 -- ---- what stood
 
 -- a rule that a binding gives has nothing new for its grantees
 pub rules_that_stood : (who : Identities) (before : PolicyObjects) (b : Binding) (to : Grantee) (rule : PolicyRule) → Has (all_bindings before) b → Has (grantees b) to → Has (role_of before b) rule
-    → new_atoms (held before (alone who (unbound_user before) to) b.namespace) rule ≡ []
+    → new_atoms b.namespace (held before (alone who (unbound_user before) to) b.namespace) rule ≡ []
 rules_that_stood who before b to rule stands bound listed = none_has _ (λ a has.
     let own = holds before (alone who (unbound_user before) to) b.namespace rule (record { by = b; stands = stands; there = inr refl; to = to; bound = bound; meant = alone_matches who (unbound_user before) to; listed = listed }) in
-    let new = new_of (held before (alone who (unbound_user before) to) b.namespace) rule a has in
+    let new = new_of b.namespace (held before (alone who (unbound_user before) to) b.namespace) rule a has in
     not_true _ new.1.0 (some_at (λ rule. rule_implies rule a) (held before (alone who (unbound_user before) to) b.namespace) rule own (own_is_implied rule a new.1.1)))
 
 -- a binding gives nobody anything new where one that stood gave its subjects its role's rules in its namespace
@@ -290,9 +284,9 @@ bindings_alike who before after s b stands same_namespace same_subjects same_rul
     by_master to bound false line there =
         let numbered = part_of (lines_by (held before (alone who (unbound_user before) to) b.namespace) to b) (enumerate_from 0 (role_of after b)) line there in
         let listed = subst (λ l. Has l numbered.0.1) (sym same_rules) (numbered_of 0 (role_of after b) numbered.0 numbered.1.0) in
-        let none : new_atoms (held before (alone who (unbound_user before) to) b.namespace) numbered.0.1 ≡ [] =
-        subst (λ n. new_atoms (held before (alone who (unbound_user before) to) n) numbered.0.1 ≡ []) same_namespace (rules_that_stood who before s to numbered.0.1 stands bound listed) in
-        let a = mapped_of (λ (a : Atom). record { to = to; binding = b; rule = numbered.0.0; gain = a }) (new_atoms (held before (alone who (unbound_user before) to) b.namespace) numbered.0.1) line numbered.1.1 in
+        let none : new_atoms b.namespace (held before (alone who (unbound_user before) to) b.namespace) numbered.0.1 ≡ [] =
+        subst (λ n. new_atoms n (held before (alone who (unbound_user before) to) n) numbered.0.1 ≡ []) same_namespace (rules_that_stood who before s to numbered.0.1 stands bound listed) in
+        let a = mapped_of (λ (a : Atom). record { to = to; binding = b; rule = numbered.0.0; gain = a }) (new_atoms b.namespace (held before (alone who (unbound_user before) to) b.namespace) numbered.0.1) line numbered.1.1 in
         subst (λ l. Has l a.0) none a.1.0
 
 -- a binding that stood with its role's rules gives nothing new

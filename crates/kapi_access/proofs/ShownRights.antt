@@ -1,7 +1,9 @@
 -- What an identity has is what it may do, whether rule by rule or in lines.
-use Rattle.std.proofs.Common.{◌≡◌, ℕ, ◌+◌, Bool, true, false, ◌&&◌, ◌||◌, if◌then◌else◌, List, [], ◌∷◌, ◌++◌, length, map, refl, sym, ap, ◌∙◌, ◌==◌}
+use Rattle.std.proofs.Common.{◌≡◌, ℕ, ◌+◌, Bool, true, false, ◌&&◌, ◌||◌, if◌then◌else◌, List, [], ◌∷◌, ◌++◌, length, refl, sym, ap, ◌∙◌, ◌==◌}
 use Rattle.std.specs.BTreeMap.{insert_entry, is_at}
-use Rattle.std.specs.List.{enumerate_from, filter, fold, list_any}
+use Rattle.std.proofs.lemmas.Bool.{and_parts}
+use Rattle.std.proofs.lemmas.List.Folds.{list_any-append}
+use Rattle.std.specs.List.{enumerate_from, filter, flat_map, fold, list_any}
 use Rattle.std.specs.Map.{remove_entry}
 use Rattle.std.specs.Option.{unwrap_or}
 use Rattle.std.specs.Cmp.{Equal-is}
@@ -15,16 +17,19 @@ use Rattle.kapi_model.specs.Identities.{is_master}
 use Rattle.kapi_model.specs.declared.identity.Identity.{Identity}
 use Rattle.kapi_model.specs.declared.policy_rule.PolicyRule.{PolicyRule}
 use Rattle.kapi_rules.proofs.Parts.{any_flat_map, any_same}
+use Rattle.kapi_rules.specs.Entries.{resource_matches, url_matches, word_matches}
 use Rattle.kapi_rules.specs.Rules.{allows}
 use Rattle.kapi_rules.specs.declared.point.Point.{Point}
+use Rattle.kapi_rules.specs.declared.point.Point.TheVariants as point
 use Rattle.kapi_policy.proofs.Decisions.{allowed_where_held}
 use Rattle.kapi_policy.specs.All.{all_bindings}
 use Rattle.kapi_policy.specs.Decided.{Binding, given, held}
 use Rattle.kapi_policy.specs.Objects.{PolicyObjects}
 use Rattle.kapi_gains.specs.Access.{may}
-use Rattle.kapi_access.specs.Given.{allows_at, given_at, given_by, given_so_far, lines_within, what, what_lines, with_given}
+use Rattle.kapi_object.proofs.Clean.{none_if}
+use Rattle.kapi_access.specs.Given.{allows_at, counting_in, given_as, given_at, given_by, given_so_far, is_bare, lines_within, what, what_lines, with_given}
 use Rattle.kapi_access.specs.Scoped.{scoped_cmp}
-use Rattle.kapi_access.specs.Who.{counts}
+use Rattle.kapi_access.specs.Who.{IsRequest, counts}
 use Rattle.kapi_access.specs.declared.given.Given.{Given}
 use Rattle.kapi_access.specs.declared.given.GivenBy.{GivenBy}
 use Rattle.kapi_access.specs.declared.scoped.ScopedRule.{ScopedRule}
@@ -33,13 +38,62 @@ use Rattle.kapi_access.proofs.Walks.{all_count}
 
 -- ---- rules
 
-module _ (namespace : List ℕ) (p : Point) where
-  -- rules that a binding gives allow what they allow, where the binding counts
+-- what is bare allows nothing
+bare_allows : (rule : PolicyRule) (p : Point) → is_bare rule ≡ true → allows rule p ≡ false
+bare_allows rule (point.Resource p) bare =
+    let none = ap (list_any (λ e. resource_matches e p.resource p.subresource)) (none_if rule.resources (and_parts (length rule.resources == 0) _ bare).0) in
+    never (list_any (λ e. word_matches e p.verb) rule.verbs) (list_any (λ e. word_matches e p.group) rule.api_groups) _ _ none
+  where
+    never : (a b c d : Bool) → c ≡ false → (a && (b && (c && d))) ≡ false
+    never false b c d h = refl
+    never true false c d h = refl
+    never true true true d h = absurd (cc h)
+    never true true false d h = refl
+bare_allows rule (point.Url p) bare =
+    let none = ap (list_any (λ e. url_matches e p.path)) (none_if rule.non_resource_urls (and_parts (length rule.resources == 0) _ bare).1) in
+    ap (λ t. list_any (λ e. word_matches e p.verb) rule.verbs && t) none ∙ and_false (list_any (λ e. word_matches e p.verb) rule.verbs)
+
+in_none : (n : List ℕ) → (length n == 0) ≡ false → bytes_eq n [] ≡ false
+in_none [] some = absurd (cc some)
+in_none (b ∷ n) some = refl
+
+-- of a rule counts what allows requests there
+counting_allows : (namespace : List ℕ) (p : Point) → IsRequest namespace p → (b : Binding) (rule : PolicyRule)
+    → (counts namespace b && allows (counting_in b.namespace rule) p) ≡ (counts namespace b && allows rule p)
+counting_allows namespace (point.Resource p) asked b rule = by_scope (length b.namespace == 0)
+  where
+    by_scope : (c : Bool) → (counts namespace b && allows (if c then rule else record rule { non_resource_urls = [] }) (point.Resource p)) ≡ (counts namespace b && allows rule (point.Resource p))
+    by_scope true = refl
+    by_scope false = refl
+counting_allows namespace (point.Url p) asked b rule = by_scope (length b.namespace == 0) refl
+  where
+    by_scope : (c : Bool) → (length b.namespace == 0) ≡ c
+        → ((c || bytes_eq b.namespace namespace) && allows (if c then rule else record rule { non_resource_urls = [] }) (point.Url p)) ≡ ((c || bytes_eq b.namespace namespace) && allows rule (point.Url p))
+    by_scope true is = refl
+    by_scope false is = rw (asked, in_none b.namespace is) refl
+
+module _ (namespace : List ℕ) (p : Point) (asked : IsRequest namespace p) where
+  abbrev counted_allows : Given → Bool
+  counted_allows g = allows_at namespace p g.at
+
+  -- what a binding gives of a rule allows what the rule allows, where the binding counts
+  one_rule : (b : Binding) (n : ℕ) (rule : PolicyRule) → list_any counted_allows (given_at b (n, rule)) ≡ (counts namespace b && allows rule p)
+  one_rule b n rule = by_bare (is_bare (counting_in b.namespace rule)) refl
+    where
+      by_bare : (t : Bool) → is_bare (counting_in b.namespace rule) ≡ t
+          → list_any counted_allows (if t then [] else given_as b n (counting_in b.namespace rule) ∷ []) ≡ (counts namespace b && allows rule p)
+      by_bare true is =
+          sym (sym (counting_allows namespace p asked b rule) ∙ ap (λ t. counts namespace b && t) (bare_allows (counting_in b.namespace rule) p is) ∙ and_false (counts namespace b))
+      by_bare false is = or_false (counts namespace b && allows (counting_in b.namespace rule) p) ∙ counting_allows namespace p asked b rule
+
   numbered : (b : Binding) (n : ℕ) (rules : List PolicyRule)
-      → list_any (λ (g : Given). allows_at namespace p g.at) (map (given_at b) (enumerate_from n rules)) ≡ (counts namespace b && list_any (λ rule. allows rule p) rules)
+      → list_any counted_allows (flat_map (given_at b) (enumerate_from n rules)) ≡ (counts namespace b && list_any (λ rule. allows rule p) rules)
   numbered b n [] = sym (and_false (counts namespace b))
   numbered b n (rule ∷ rules) =
-      ap (λ t. (counts namespace b && allows rule p) || t) (numbered b (n + 1) rules) ∙ and_or (counts namespace b) (allows rule p) (list_any (λ rule. allows rule p) rules)
+      list_any-append counted_allows (given_at b (n, rule)) (flat_map (given_at b) (enumerate_from (n + 1) rules))
+      ∙ ap (λ t. t || list_any counted_allows (flat_map (given_at b) (enumerate_from (n + 1) rules))) (one_rule b n rule)
+      ∙ ap (λ t. (counts namespace b && allows rule p) || t) (numbered b (n + 1) rules)
+      ∙ and_or (counts namespace b) (allows rule p) (list_any (λ rule. allows rule p) rules)
 
   if_counted : (c : Bool) (rules : List PolicyRule) → (c && list_any (λ rule. allows rule p) rules) ≡ list_any (λ rule. allows rule p) (if c then rules else [])
   if_counted true rules = refl
@@ -111,20 +165,20 @@ module _ (test : ScopedRule → Bool) where
       ∙ or_assoc (some_line lines) (test g.at) (list_any (λ (g : Given). test g.at) list)
 
 -- a line allows what some rule of the list allows, and nothing else
-pub lines_are_exact : (objects : PolicyObjects) (identity : Identity) (namespace : List ℕ) (p : Point)
+lines_are_exact : (objects : PolicyObjects) (identity : Identity) (namespace : List ℕ) (p : Point) → IsRequest namespace p
     → may objects identity namespace p ≡ (is_master identity || list_any (λ (l : ScopedRule × List GivenBy). allows_at namespace p l.0) (what_lines objects identity))
-lines_are_exact objects identity namespace p =
-    what_is_exact namespace p objects identity ∙ ap (λ t. is_master identity || t) (sym (all_given (λ s. allows_at namespace p s) [] (what objects identity)))
+lines_are_exact objects identity namespace p asked =
+    what_is_exact namespace p asked objects identity ∙ ap (λ t. is_master identity || t) (sym (all_given (λ s. allows_at namespace p s) [] (what objects identity)))
 
 all_kept : {X : Type 0} (xs : List X) → filter (λ x. true) xs ≡ xs
 all_kept [] = refl
 all_kept (x ∷ xs) = ap (λ l. x ∷ l) (all_kept xs)
 
 -- without a namespace all lines are asked for
-pub lines_everywhere : (objects : PolicyObjects) (identity : Identity) (namespace : List ℕ) (p : Point)
+pub lines_everywhere : (objects : PolicyObjects) (identity : Identity) (namespace : List ℕ) (p : Point) → IsRequest namespace p
     → may objects identity namespace p ≡ (is_master identity || list_any (λ (l : ScopedRule × List GivenBy). allows_at namespace p l.0) (lines_within None (what_lines objects identity)))
-lines_everywhere objects identity namespace p =
-    lines_are_exact objects identity namespace p ∙ ap (λ (ls : List (ScopedRule × List GivenBy)). is_master identity || list_any (λ l. allows_at namespace p l.0) ls) (sym (all_kept (what_lines objects identity)))
+lines_everywhere objects identity namespace p asked =
+    lines_are_exact objects identity namespace p asked ∙ ap (λ (ls : List (ScopedRule × List GivenBy)). is_master identity || list_any (λ l. allows_at namespace p l.0) ls) (sym (all_kept (what_lines objects identity)))
 
 counting_kept : (namespace : List ℕ) (p : Point) (lines : List (ScopedRule × List GivenBy))
     → list_any (λ (l : ScopedRule × List GivenBy). allows_at namespace p l.0) (lines_within (Some namespace) lines) ≡ list_any (λ (l : ScopedRule × List GivenBy). allows_at namespace p l.0) lines
@@ -140,7 +194,7 @@ counting_kept namespace p (l ∷ lines) = by_case (length l.0.namespace == 0 || 
     by_case false is more = more
 
 -- in a namespace those lines that count there are
-pub lines_of_namespace : (objects : PolicyObjects) (identity : Identity) (namespace : List ℕ) (p : Point)
+pub lines_of_namespace : (objects : PolicyObjects) (identity : Identity) (namespace : List ℕ) (p : Point) → IsRequest namespace p
     → may objects identity namespace p ≡ (is_master identity || list_any (λ (l : ScopedRule × List GivenBy). allows_at namespace p l.0) (lines_within (Some namespace) (what_lines objects identity)))
-lines_of_namespace objects identity namespace p =
-    lines_are_exact objects identity namespace p ∙ ap (λ t. is_master identity || t) (sym (counting_kept namespace p (what_lines objects identity)))
+lines_of_namespace objects identity namespace p asked =
+    lines_are_exact objects identity namespace p asked ∙ ap (λ t. is_master identity || t) (sym (counting_kept namespace p (what_lines objects identity)))

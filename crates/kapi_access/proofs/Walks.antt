@@ -89,12 +89,12 @@ pub risks_by_all : (objects : PolicyObjects) (list : List BoundBy) → map bindi
 unfolding risks
 risks_by_all objects list all = ap (first_ways listed.InEachScope) (flat_map_map (ways_of objects is_risky) binding_of list ∙ ap (λ l. flat_map (ways_of objects is_risky) l) all)
 
-pub lines_alike : (to : Grantee) (b : Binding) (rule : ℕ) (list : List Atom) → flat_map (line_for to b rule) list ≡ map (λ a. record { to = to; binding = b; rule = rule; gain = a }) (filter can_match list)
+pub lines_alike : (to : Grantee) (b : Binding) (rule : ℕ) (list : List Atom) → flat_map (line_for to b rule) list ≡ map (λ a. record { to = to; binding = b; rule = rule; gain = a }) (filter (can_match b.namespace) list)
 unfolding line_for
 lines_alike to b rule [] = refl
 lines_alike to b rule (a ∷ list) =
-    elim (can_match a) as (λ c. (if c then record { to = to; binding = b; rule = rule; gain = a } ∷ [] else []) ++ flat_map (line_for to b rule) list
-    ≡ map (λ a. record { to = to; binding = b; rule = rule; gain = a }) (cond c (a ∷ filter can_match list) (filter can_match list))) [
+    elim (can_match b.namespace a) as (λ c. (if c then record { to = to; binding = b; rule = rule; gain = a } ∷ [] else []) ++ flat_map (line_for to b rule) list
+    ≡ map (λ a. record { to = to; binding = b; rule = rule; gain = a }) (cond c (a ∷ filter (can_match b.namespace) list) (filter (can_match b.namespace) list))) [
       | true ↦ ap (λ (l : List Gained). record { to = to; binding = b; rule = rule; gain = a } ∷ l) (lines_alike to b rule list)
       | false ↦ lines_alike to b rule list
     ]

@@ -1,5 +1,5 @@
 -- What one policy gives that another did not.
-use Rattle.std.specs.Prelude.{◌≡◌, ◌⊎◌, ◌==◌, ◌&&◌, ℕ, List, [], ◌∷◌, ◌++◌, Bool, true, false, not, if◌then◌else◌, map, Option, Some, None}
+use Rattle.std.specs.Prelude.{◌≡◌, ◌⊎◌, ◌==◌, ◌&&◌, ℕ, List, [], ◌∷◌, ◌++◌, Bool, true, false, not, if◌then◌else◌, length, map, Option, Some, None}
 use Rattle.std.specs.List.{enumerate_from, filter, flat_map, fold}
 use Rattle.std.specs.Str.{bytes_eq}
 use Rattle.kapi_model.specs.declared.policy_rule.PolicyRule.{PolicyRule}
@@ -16,14 +16,13 @@ use Rattle.kapi_policy.specs.All.{all_bindings}
 use Rattle.kapi_policy.specs.Decided.{Binding, held}
 use Rattle.kapi_policy.specs.Objects.{PolicyObjects}
 use Rattle.kapi_aggregation.specs.Members.{Has}
-use Rattle.kapi_gains.specs.Access.{GivesNothing, may}
+use Rattle.kapi_gains.specs.Access.{may}
 use Rattle.kapi_access.specs.declared.grantee.Grantee.{Grantee}
 use Rattle.kapi_access.specs.declared.identities.Identities.{Identities}
-use Rattle.kapi_access.specs.declared.identities.Identities.TheVariants as identities
 use Rattle.kapi_access.specs.Grantees.{alone, grantees, matches, role_of, unbound_user}
 use Rattle.kapi_access.specs.Together.{together}
-use Rattle.kapi_access.specs.Usual.{IsMeant, IsUsual}
-use Rattle.kapi_access.specs.Who.{same_grantee}
+use Rattle.kapi_access.specs.Usual.{IsMeant}
+use Rattle.kapi_access.specs.Who.{IsRequest, same_grantee}
 
 -- a user or group that gains an atom, and by what: a binding, and the index of a rule of its role
 pub record Gained : Type 0 where
@@ -38,19 +37,20 @@ is_nothing None = false
 is_nothing (Some []) = true
 is_nothing (Some (b ∷ text)) = false
 
--- some request matches the atom: the first slash of its resource is not its last byte, as in `pods/`
-abbrev pub can_match : Atom → Bool
-can_match (atom.Resource a) = not (is_nothing (after_slash a.resource))
-can_match (atom.Url a) = true
+-- some request in the namespace matches the atom: the first slash of its resource is not its last byte, as in `pods/`, and for a URL
+-- the namespace is empty
+abbrev pub can_match : List ℕ → Atom → Bool
+can_match namespace (atom.Resource a) = not (is_nothing (after_slash a.resource))
+can_match namespace (atom.Url a) = length namespace == 0
 
--- the atoms of the rule that one lacks who holds those rules
-unfoldable pub new_atoms : List PolicyRule → PolicyRule → List Atom
-new_atoms own rule = filter can_match (missing own (rule ∷ []))
+-- the atoms of the rule that one lacks in the namespace who holds those rules there
+unfoldable pub new_atoms : List ℕ → List PolicyRule → PolicyRule → List Atom
+new_atoms namespace own rule = filter (can_match namespace) (missing own (rule ∷ []))
 
 -- a line for each atom of the rule that the grantee lacks
 abbrev pub lines_by : List PolicyRule → Grantee → Binding → ℕ × PolicyRule → List Gained
 lines_by own to b numbered =
-    map (λ a. record { to = to; binding = b; rule = numbered.0; gain = a }) (new_atoms own numbered.1)
+    map (λ a. record { to = to; binding = b; rule = numbered.0; gain = a }) (new_atoms b.namespace own numbered.1)
 
 -- a line for each atom of the rules that the grantee lacks
 abbrev pub lines_of : List PolicyRule → Grantee → Binding → List PolicyRule → List Gained
@@ -87,16 +87,16 @@ pub record IsGained (who : Identities) (before after : PolicyObjects) (line : Ga
   pub among : IsMeant who identity
   pub request : Point
   pub plain : HasPlainResource request
+  pub asked : IsRequest line.binding.namespace request
   pub meant : matches line.to identity ≡ true
   pub by_atom : atom_allows line.gain request ≡ true
   pub now : may after identity line.binding.namespace request ≡ true
   pub not_before : may before identity line.binding.namespace request ≡ false
 
--- what is allowed to anybody of those identities now was allowed before, at the same place
+-- each request that is allowed to anybody of those identities now was allowed before
 abbrev pub GivesNothingTo : Identities → PolicyObjects → PolicyObjects → Type 0
-GivesNothingTo identities.Any before after = GivesNothing [] before after
-GivesNothingTo identities.Usual before after =
-    (identity : Identity) (namespace : List ℕ) (p : Point) → IsUsual identity → HasPlainResource p
+GivesNothingTo who before after =
+    (identity : Identity) (namespace : List ℕ) (p : Point) → IsMeant who identity → HasPlainResource p → IsRequest namespace p
     → may after identity namespace p ≡ true → may before identity namespace p ≡ true
 
 -- ---- by rules

@@ -1,5 +1,5 @@
 -- What an identity has, and by what (Kubernetes, 'Using RBAC Authorization', 'RoleBinding and ClusterRoleBinding').
-use Rattle.std.specs.Prelude.{ℕ, ◌==◌, Bool, ◌&&◌, ◌||◌, List, [], ◌∷◌, ◌++◌, length, map, Option, Some, None, true}
+use Rattle.std.specs.Prelude.{ℕ, ◌==◌, Bool, ◌&&◌, ◌||◌, if◌then◌else◌, List, [], ◌∷◌, ◌++◌, length, Option, Some, None, true}
 use Rattle.std.specs.BTreeMap.{insert_entry, is_at}
 use Rattle.std.specs.List.{enumerate_from, filter, flat_map, fold}
 use Rattle.std.specs.Map.{lookup, remove_entry}
@@ -17,16 +17,29 @@ use Rattle.kapi_access.specs.declared.given.Given.{Given}
 use Rattle.kapi_access.specs.declared.given.GivenBy.{GivenBy}
 use Rattle.kapi_access.specs.declared.scoped.ScopedRule.{ScopedRule}
 
--- the rule of that number among those of the binding's role
-abbrev pub given_at : Binding → ℕ × PolicyRule → Given
-given_at b numbered = record {
-  at = record { rule = numbered.1; namespace = b.namespace };
-  by = record { kind = b.kind; binding = b.name; role = b.role; rule = numbered.0 };
+-- what of a rule counts in the namespace, or everywhere if that is empty: a request for a URL has no namespace
+abbrev pub counting_in : List ℕ → PolicyRule → PolicyRule
+counting_in namespace rule = if length namespace == 0 then rule else record rule { non_resource_urls = [] }
+
+-- the rule has neither resources nor URLs
+abbrev pub is_bare : PolicyRule → Bool
+is_bare rule = length rule.resources == 0 && length rule.non_resource_urls == 0
+
+-- the rule, by its number among those of the binding's role
+abbrev pub given_as : Binding → ℕ → PolicyRule → Given
+given_as b number rule = record {
+  at = record { rule = rule; namespace = b.namespace };
+  by = record { kind = b.kind; binding = b.name; role = b.role; rule = number };
 }
 
--- each of some rules, as given by the binding
+-- what the binding gives of the rule of that number, if anything
+abbrev pub given_at : Binding → ℕ × PolicyRule → List Given
+given_at b numbered =
+    if is_bare (counting_in b.namespace numbered.1) then [] else given_as b numbered.0 (counting_in b.namespace numbered.1) ∷ []
+
+-- what the binding gives of some rules
 abbrev pub all_given : Binding → List PolicyRule → List Given
-all_given b rules = map (given_at b) (enumerate_from 0 rules)
+all_given b rules = flat_map (given_at b) (enumerate_from 0 rules)
 
 -- what a binding gives the identity
 unfoldable pub given_by : PolicyObjects → Identity → Binding → List Given

@@ -34,6 +34,6 @@ gained_rule_of g = record { to = g.to; binding = binding_of g.binding; rule = g.
 unfoldable pub ways_there : PolicyObjects → (PolicyRule → Bool) → Scope → Binding → List Way
 ways_there objects test there b = if counts_in there b then ways_of objects test b else []
 
--- the line of an atom that some request matches
+-- the line of an atom that some request matches where the binding counts
 unfoldable pub line_for : Grantee → Binding → ℕ → Atom → List Gained
-line_for to b rule a = if can_match a then record { to = to; binding = b; rule = rule; gain = a } ∷ [] else []
+line_for to b rule a = if can_match b.namespace a then record { to = to; binding = b; rule = rule; gain = a } ∷ [] else []

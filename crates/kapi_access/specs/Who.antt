@@ -5,6 +5,7 @@ use Rattle.std.specs.Str.{bytes_eq}
 use Rattle.kapi_model.specs.declared.policy_rule.PolicyRule.{PolicyRule}
 use Rattle.kapi_model.specs.declared.identity.Identity.{Identity}
 use Rattle.kapi_rules.specs.declared.point.Point.{Point}
+use Rattle.kapi_rules.specs.declared.point.Point.TheVariants as point
 use Rattle.kapi_rules.specs.Rules.{allows}
 use Rattle.kapi_policy.specs.All.{all_bindings}
 use Rattle.kapi_policy.specs.Decided.{Binding, bindings_in}
@@ -16,6 +17,11 @@ use Rattle.kapi_access.specs.declared.first_ways.Listed.TheVariants as listed
 use Rattle.kapi_access.specs.declared.question.Scope.{Scope}
 use Rattle.kapi_access.specs.declared.question.Scope.TheVariants as scope
 use Rattle.kapi_access.specs.Grantees.{grantees, matches, role_of}
+
+-- a request for a URL has no namespace
+abbrev pub IsRequest : List ℕ → Point → Type 0
+IsRequest namespace (point.Resource p) = Unit {0}
+IsRequest namespace (point.Url p) = namespace ≡ []
 
 -- a user or group, with the binding and the index of its role's rule by which it may
 pub record Way : Type 0 where

@@ -56,12 +56,12 @@ fn ends_at_slash(text: &[u8]) -> bool
     false
 }
 
-fn can_match(atom: &Atom) -> bool
-    ensures { result ≡ can_match_of atom.now }
+fn can_match(namespace: &str, atom: &Atom) -> bool
+    ensures { result ≡ can_match_of namespace.now atom.now }
 {
     match atom {
         Atom::Resource(resource) => !ends_at_slash(resource.resource.as_str().as_bytes()),
-        Atom::Url(_) => true,
+        Atom::Url(_) => namespace.is_empty(),
     }
 }
 
@@ -78,7 +78,7 @@ fn push_atom<'a>(
 ) -> Result<(), Memory>
     ensures { OnOk result (map gain_of list.new.items ≡ map gain_of list.old.items ++ line_for to.now (binding_of binding.now) rule atom.now) }
 {
-    if can_match(atom) {
+    if can_match(binding.namespace, atom) {
         list.push(Gain {
             to: to.copy(alloc)?,
             binding: again(binding),

@@ -5,7 +5,7 @@ ghost use Rattle.std.specs.Option.{unwrap_or};
 ghost use Rattle.kapi_model.specs.Subjects.{subject_matches as matches_of};
 ghost use Rattle.kapi_policy.specs.All.{all_bindings};
 ghost use Rattle.kapi_policy.specs.Views.{binding_of};
-ghost use Rattle.kapi_access.specs.Given.{all_given, given_at, given_by, lines_of, what as what_of, with_given};
+ghost use Rattle.kapi_access.specs.Given.{all_given, counting_in as counting_of, given_as as given_of, given_at, given_by, is_bare as is_bare_rule, lines_of, what as what_of, with_given};
 
 use crate::scoped::ScopedRule;
 use crate::way::rules_by;
@@ -41,17 +41,34 @@ fn is_bound(binding: &Binding<'_>, identity: &Identity) -> bool
     binding.subjects.iter().any(|subject| subject_matches(subject, binding.namespace, identity))
 }
 
-fn copy_given(
+// What of the rule counts in the namespace: URLs are asked for cluster-wide alone.
+fn counting_in(alloc: Global, namespace: &str, rule: &PolicyRule) -> Result<PolicyRule, Memory>
+    ensures { IfOk result (λ r. r ≡ counting_of namespace.now rule.now) }
+{
+    let mut counting = rule.copy(alloc)?;
+    if !namespace.is_empty() {
+        counting.non_resource_urls = Sequence::new(Vec::new(alloc));
+    }
+    Ok(counting)
+}
+
+fn is_bare(rule: &PolicyRule) -> bool
+    ensures { result ≡ is_bare_rule rule.now }
+{
+    rule.resources.as_slice().is_empty() && rule.non_resource_urls.as_slice().is_empty()
+}
+
+fn given_as(
     alloc: Global,
     binding: &Binding<'_>,
     index: usize,
-    rule: &PolicyRule,
+    rule: PolicyRule,
 ) -> Result<Given, Memory>
-    ensures { IfOk result (λ g. g ≡ given_at (binding_of binding.now) (index, rule.now)) }
+    ensures { IfOk result (λ g. g ≡ given_of (binding_of binding.now) index rule) }
 {
     Ok(Given {
         at: ScopedRule {
-            rule: rule.copy(alloc)?,
+            rule,
             namespace: Text::copy_of(alloc, binding.namespace)?,
         },
         by: GivenBy {
@@ -63,6 +80,22 @@ fn copy_given(
     })
 }
 
+fn push_rule(
+    alloc: Global,
+    list: &mut Vec<Given>,
+    binding: &Binding<'_>,
+    index: usize,
+    rule: &PolicyRule,
+) -> Result<(), Memory>
+    ensures { OnOk result (list.new.items ≡ list.old.items ++ given_at (binding_of binding.now) (index, rule.now)) }
+{
+    let counting = counting_in(alloc, binding.namespace, rule)?;
+    if !is_bare(&counting) {
+        list.push(given_as(alloc, binding, index, counting)?)?;
+    }
+    Ok(())
+}
+
 fn push_rules(
     alloc: Global,
     list: &mut Vec<Given>,
@@ -72,7 +105,7 @@ fn push_rules(
     ensures { OnOk result (list.new.items ≡ list.old.items ++ all_given (binding_of binding.now) rules.now) }
 {
     for (index, rule) in rules.iter().enumerate() {
-        list.push(copy_given(alloc, binding, index, rule)?)?;
+        push_rule(alloc, list, binding, index, rule)?;
     }
     Ok(())
 }
@@ -108,8 +141,8 @@ fn given_by_all<P: Policy>(
     Ok(list)
 }
 
-/// What the identity has, given all bindings of the policy: each rule that a binding gives it, in the order of the bindings. A member
-/// of `system:masters` may do everything besides.
+/// What the identity has, given all bindings of the policy: each rule that a binding gives it, in the order of the bindings; of a
+/// RoleBinding without its URLs. A member of `system:masters` may do everything besides.
 pub fn what<P: Policy>(
     alloc: Global,
     policy: &P,

@@ -24,7 +24,7 @@ ghost use Rattle.kapi_access.specs.Grantees.{alone, grantees, role_of, unbound_u
 ghost use Rattle.kapi_access.specs.Risks.{IsWithoutRisk, risks};
 ghost use Rattle.kapi_access.specs.Usual.{IsMeant};
 ghost use Rattle.kapi_access.specs.declared.identities.Identities.{Identities};
-ghost use Rattle.kapi_access.specs.Who.{IsEachOnce, is_named, is_named_in, who_anywhere, who_may};
+ghost use Rattle.kapi_access.specs.Who.{IsEachOnce, IsRequest, is_named, is_named_in, who_anywhere, who_may};
 ghost use Rattle.kapi_access.specs.declared.first_ways.Listed.TheVariants as Listed;
 
 /// A request is allowed to an identity exactly if it is in `system:masters` or some line of those who may names it.
@@ -68,10 +68,10 @@ pub fn nobody_gains_where_the_unprivileged_write()
         → AreBy acting steps → Runs start steps now → GivesNothing acting start.objects now.objects }
 {}
 
-/// Whatever the policy after allows an identity that is meant, and the policy before did not, a line covers: it names the identity,
-/// its binding counts there, and its atom allows it.
+/// Each request that the policy after allows an identity that is meant, and the policy before did not, a line covers: it names the
+/// identity, its binding counts there, and its atom allows it.
 pub fn every_gain_is_reported()
-    ensures { (who : Identities) (before after : PolicyObjects) (identity : Identity) (namespace : List ℕ) (p : Point) → IsMeant who identity → HasPlainResource p
+    ensures { (who : Identities) (before after : PolicyObjects) (identity : Identity) (namespace : List ℕ) (p : Point) → IsMeant who identity → HasPlainResource p → IsRequest namespace p
         → may after identity namespace p ≡ true → may before identity namespace p ≡ false → IsReported (gained who before after) identity namespace p }
 {}
 
@@ -101,7 +101,7 @@ pub fn nothing_is_listed_where_nobody_gains()
 pub fn what_stood_stays_out()
     ensures rules { (who : Identities) (before : PolicyObjects) (b : Binding) (to : Grantee) (rule : PolicyRule)
         → Has (all_bindings before) b → Has (grantees b) to → Has (role_of before b) rule
-        → new_atoms (held before (alone who (unbound_user before) to) b.namespace) rule ≡ [] }
+        → new_atoms b.namespace (held before (alone who (unbound_user before) to) b.namespace) rule ≡ [] }
     ensures bindings { (who : Identities) (before after : PolicyObjects) (b : Binding)
         → Has (all_bindings before) b → role_of after b ≡ role_of before b → gained_from who before after b ≡ [] }
     ensures alike { (who : Identities) (before after : PolicyObjects) (s b : Binding) → Has (all_bindings before) s
@@ -111,11 +111,11 @@ pub fn what_stood_stays_out()
 /// A request is allowed to an identity exactly if it is in `system:masters` or some rule that it has allows it, if the rule
 /// counts: rule by rule, in all lines, and in those that count in the namespace.
 pub fn what_one_has_is_what_one_may()
-    ensures rules { (objects : PolicyObjects) (identity : Identity) (namespace : List ℕ) (p : Point)
+    ensures rules { (objects : PolicyObjects) (identity : Identity) (namespace : List ℕ) (p : Point) → IsRequest namespace p
         → may objects identity namespace p ≡ (is_master identity || list_any (λ g. allows_at namespace p g.at) (what objects identity)) }
-    ensures lines { (objects : PolicyObjects) (identity : Identity) (namespace : List ℕ) (p : Point)
+    ensures lines { (objects : PolicyObjects) (identity : Identity) (namespace : List ℕ) (p : Point) → IsRequest namespace p
         → may objects identity namespace p ≡ (is_master identity || list_any (λ l. allows_at namespace p l.0) (lines_within None (what_lines objects identity))) }
-    ensures within { (objects : PolicyObjects) (identity : Identity) (namespace : List ℕ) (p : Point)
+    ensures within { (objects : PolicyObjects) (identity : Identity) (namespace : List ℕ) (p : Point) → IsRequest namespace p
         → may objects identity namespace p ≡ (is_master identity || list_any (λ l. allows_at namespace p l.0) (lines_within (Some namespace) (what_lines objects identity))) }
 {}
 
