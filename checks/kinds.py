@@ -78,12 +78,15 @@ FILES = {"own": lines(LINE), "definitions": lines(DEFINITIONS), "policy": lines(
 # A cluster-scoped kind that is named as one of Kubernetes that lives in namespaces, and a policy that names no widgets.
 SCOPED = {**LINE, "resource": "secrets", "kind": "Secret", "namespaced": False, "status": False}
 PLACED = lines(thing("Widget", "w", "shop", "example.org/v1"), thing("Secret", "s", None, "example.org/v1"))
-PLAYED = "manifests {}\nkinds own\nkinds scoped\nas root,system:masters\nGET /apis/example.org/v1/namespaces/shop/widgets/w\n= 200\nGET /apis/example.org/v1/secrets/s\n= 200\n"
+PLAYED = "as root,system:masters\nGET /apis/example.org/v1/namespaces/shop/widgets/w\n= 200\nGET /apis/example.org/v1/secrets/s\n= 200\n"
+# What stands above the first request of a case belongs to it, in any order.
+HEADS = ["manifests placed\nkinds own\nkinds scoped\n", "kinds own\nmanifests placed\nkinds scoped\n", "kinds own\nbegin\nkinds scoped\nmanifests placed\n",
+         "manifests bound\nkinds own\nkinds scoped\nmanifests placed\n"]
 BOUND = lines(thing("ClusterRole", "r", rules=[rule("get", "pods")]), thing("ClusterRoleBinding", "b", **bound("ClusterRole r", "User ann")))
 MORE = {"scoped": lines(SCOPED), "placed": PLACED, "homeless": lines(thing("Widget", "w", None, "example.org/v1")), "bound": BOUND,
-        "played": PLAYED.format("placed"), "unplaced": PLAYED.format("homeless")}
+        "unplaced": HEADS[1].replace("placed", "homeless") + PLAYED}
 CASES = [
-    Case("replay played", told="played: 2 checks\n", files=MORE),
+    *[Case("replay played", told="played: 2 checks\n", files={**MORE, "played": head + PLAYED}) for head in HEADS],
     Case("replay unplaced", 1, None, re.compile(".*metadata.namespace: required of Widget w.*", re.S)),
     Case("audit --manifests bound questions --kinds own --strict", told="denied\n"),
     Case("audit --manifests bound questions --strict", 1, "no rule names the resource widgets", "denied\n"),

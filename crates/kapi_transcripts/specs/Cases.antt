@@ -1,5 +1,5 @@
 -- The cases of a transcript: what each line adds to the script of its case.
-use Rattle.std.specs.Prelude.{ℕ, ◌==◌, Bool, true, false, not, ◌&&◌, if◌then◌else◌, List, [], ◌∷◌, ◌++◌, length, drop, codes, Option, Some, None}
+use Rattle.std.specs.Prelude.{ℕ, ◌==◌, Bool, true, false, ◌&&◌, ◌||◌, if◌then◌else◌, List, [], ◌∷◌, ◌++◌, length, drop, codes, Option, Some, None}
 use Rattle.std.specs.List.{position}
 use Rattle.std.specs.Str.{bytes_eq}
 use Rattle.kapi_lines.specs.Lines.{NumberedLine}
@@ -21,10 +21,11 @@ use Rattle.kapi_transcripts.specs.declared.request.Request.{Request}
 use Rattle.kapi_transcripts.specs.declared.wanted.Wanted.{Wanted}
 use Rattle.kapi_lines.specs.Words.{begins}
 
--- a case that is being read: what it begins with, its files of kinds, whether it rechecks rights, its script and wants
--- so far, the identities of its connections in their order, the connection that was taken last, and whether a header
--- field may follow
+-- a case that is being read: the line that begins it, or 0 if none does; what it begins with, its files of kinds, whether
+-- it rechecks rights, its script and wants so far, the identities of its connections in their order, the connection that
+-- was taken last, and whether a header field may follow
 pub record PlainDraft : Type 0 where
+  pub number : ℕ
   pub begins : Beginning
   pub kinds : List Loaded
   pub rechecks : Bool
@@ -37,11 +38,11 @@ pub record PlainDraft : Type 0 where
 -- a draft, as lists
 abbrev pub draft_of : Draft → PlainDraft
 draft_of d =
-    record { begins = d.begins; kinds = d.kinds.items; rechecks = d.rechecks; script = d.script.items; wants = d.wants.items; opened = d.opened.items; taken = d.taken; fields = d.fields }
+    record { number = d.number; begins = d.begins; kinds = d.kinds.items; rechecks = d.rechecks; script = d.script.items; wants = d.wants.items; opened = d.opened.items; taken = d.taken; fields = d.fields }
 
 -- a case without lines
-abbrev pub fresh : Beginning → PlainDraft
-fresh begins = record { begins = begins; kinds = []; rechecks = false; script = []; wants = []; opened = []; taken = None; fields = false }
+abbrev pub fresh : PlainDraft
+fresh = record { number = 0; begins = beginning.Opening; kinds = []; rechecks = false; script = []; wants = []; opened = []; taken = None; fields = false }
 
 -- the case that was read
 abbrev pub case_of : PlainDraft → Case
@@ -130,51 +131,53 @@ drafted d l f later = raw d l.number l.text
 
 -- ---- the cases
 
--- files of manifests
-abbrev pub are_manifests : Beginning → Bool
-are_manifests (beginning.Manifests m) = true
-are_manifests begins = false
-
 -- the manifests that a case begins with; no files if it begins with anything else
 abbrev pub manifests_in : Beginning → Manifests
 manifests_in (beginning.Manifests m) = m
 manifests_in begins = record { files = []; defaults = false }
 
--- the manifests of a beginning, with what a line adds: a file, or the default roles
-abbrev pub with_manifests : Beginning → ℕ → Source → Beginning
-with_manifests begins n (source.Manifests name) =
-    beginning.Manifests (record { files = (manifests_in begins).files ++ record { number = n; name = name } ∷ []; defaults = (manifests_in begins).defaults })
-with_manifests begins n source.Defaults = beginning.Manifests (record { files = (manifests_in begins).files; defaults = true })
-with_manifests begins n (source.Lines name) = beginning.Manifests (manifests_in begins)
+-- what a case begins with by a line, after it began with this: the opening objects, a file's, or those of its manifests
+-- and a file more, or the default roles beneath them
+abbrev pub begins_with : Beginning → ℕ → Source → Beginning
+begins_with before n source.Opening = beginning.Opening
+begins_with before n (source.Lines name) = beginning.Lines (record { number = n; name = name })
+begins_with before n (source.Manifests name) =
+    beginning.Manifests (record { files = (manifests_in before).files ++ record { number = n; name = name } ∷ []; defaults = (manifests_in before).defaults })
+begins_with before n source.Defaults = beginning.Manifests (record { files = (manifests_in before).files; defaults = true })
 
--- the case begins with manifests, and has no other line yet
-abbrev pub takes_manifests : PlainDraft → Bool
-takes_manifests d = are_manifests d.begins && (length d.script == 0 && (length d.wants == 0 && (length d.kinds == 0 && not d.rechecks)))
+-- the case begins as a line says
+abbrev pub begun : PlainDraft → ℕ → Source → PlainDraft
+begun d n s = record d { number = n; begins = begins_with d.begins n s }
 
--- what a case begins with after a line of manifests: the manifests so far and those of the line, or the latter alone
-abbrev pub begun_with : PlainDraft → ℕ → Source → Beginning
-begun_with d n s = with_manifests (if takes_manifests d then d.begins else beginning.Opening) n s
+-- a line says more of what a case begins with: something behind `begin`, or manifests behind manifests
+abbrev pub joins : Beginning → Source → Bool
+joins begins source.Opening = false
+joins beginning.Opening s = true
+joins (beginning.Lines file) s = false
+joins (beginning.Manifests m) (source.Lines name) = false
+joins (beginning.Manifests m) s = true
 
--- the case that a `load` or `manifests` line ends, if it ends one
+-- a line that begins a case begins this one: nothing is asked or wanted yet, and the line is the first of these lines or
+-- says more. So a case has all `kinds`, `recheck` and `manifests` lines above its first request.
+abbrev pub takes : PlainDraft → Source → Bool
+takes d s = length d.script == 0 && (length d.wants == 0 && (d.number == 0 || joins d.begins s))
+
+-- the case that a line that begins one ends, if it ends one
 abbrev pub ended_at : PlainDraft → Source → List Case
-ended_at d (source.Lines name) = case_of d ∷ []
-ended_at d s = if takes_manifests d then [] else case_of d ∷ []
+ended_at d s = if takes d s then [] else case_of d ∷ []
 
--- what a case begins with after a `load` or `manifests` line
-abbrev pub begins_at : PlainDraft → ℕ → Source → Beginning
-begins_at d n (source.Lines name) = beginning.Lines (record { number = n; name = name })
-begins_at d n s = begun_with d n s
+-- the case that such a line begins, without the line
+abbrev pub begun_from : PlainDraft → Source → PlainDraft
+begun_from d s = if takes d s then d else fresh
 
 -- the case that a line of this form ends, if it ends one
 abbrev pub ended : PlainDraft → Form → List Case
-ended d form.Begin = case_of d ∷ []
-ended d (form.Load s) = ended_at d s
+ended d (form.Begin s) = ended_at d s
 ended d f = []
 
 -- the case being read after a line of this form; `later` are the lines after it
 abbrev pub next : PlainDraft → NumberedLine → Form → List NumberedLine → PlainDraft
-next d l form.Begin later = fresh beginning.Opening
-next d l (form.Load s) later = fresh (begins_at d l.number s)
+next d l (form.Begin s) later = begun (begun_from d s) l.number s
 next d l f later = drafted d l f later
 
 -- the cases of lines, the first of which is being read
@@ -182,6 +185,6 @@ unfoldable pub cases_from : PlainDraft → List NumberedLine → List Case
 cases_from d [] = case_of d ∷ []
 cases_from d (l ∷ ls) = ended d (form_of l.text) ++ cases_from (next d l (form_of l.text) ls) ls
 
--- the cases of a transcript: `begin`, `load` and `manifests` begin another one
+-- the cases of a transcript; `begin`, `load` and `manifests` begin one
 abbrev pub cases_of : List NumberedLine → List Case
-cases_of lines = cases_from (fresh beginning.Opening) lines
+cases_of lines = cases_from fresh lines

@@ -36,11 +36,11 @@ actor_form names = if are_names names then form.Actor names else form.Event
 -- the form of a line
 unfoldable pub form_of : List ℕ → Form
 form_of line =
-    if bytes_eq line (codes "begin") then form.Begin
+    if bytes_eq line (codes "begin") then form.Begin source.Opening
     else (if bytes_eq line (codes "pump") then form.Pump
     else (if bytes_eq line (codes "recheck") then form.Recheck
-    else (if bytes_eq line (codes "load defaults") then form.Load source.Defaults
-    else (if begins line (codes "load ") then form.Load (source.Lines (drop 5 line))
-    else (if begins line (codes "manifests ") then form.Load (source.Manifests (drop 10 line))
+    else (if bytes_eq line (codes "load defaults") then form.Begin source.Defaults
+    else (if begins line (codes "load ") then form.Begin (source.Lines (drop 5 line))
+    else (if begins line (codes "manifests ") then form.Begin (source.Manifests (drop 10 line))
     else (if begins line (codes "kinds ") then form.Kinds (drop 6 line)
     else (if begins line (codes "as ") then actor_form (drop 3 line) else want_form line (wanted_of line))))))))

@@ -16,6 +16,8 @@ use std::mem;
 /// A case that is being read.
 #[derive(Drop)]
 pub struct Draft {
+    /// The line that begins the case; 0 if none does.
+    number: usize,
     begins: Beginning,
     kinds: Vec<Loaded>,
     rechecks: bool,
@@ -31,11 +33,12 @@ pub struct Draft {
 
 impl Draft {
     /// A case without lines.
-    fn new(alloc: Global, begins: Beginning) -> Draft
-        ensures { draft_of result ≡ fresh begins }
+    fn new(alloc: Global) -> Draft
+        ensures { draft_of result ≡ fresh }
     {
         Draft {
-            begins,
+            number: 0,
+            begins: Beginning::Opening,
             kinds: Vec::new(alloc),
             rechecks: false,
             script: Vec::new(alloc),
@@ -46,15 +49,23 @@ impl Draft {
         }
     }
 
-    /// Whether the case begins with manifests, and has no other line yet.
-    fn takes_manifests(&self) -> bool
-        ensures { result ≡ cased.takes_manifests (draft_of self.now) }
+    /// Whether a line that begins a case begins this one, which has settings alone so far.
+    fn takes(&self, source: &Source) -> bool
+        ensures { result ≡ cased.takes (draft_of self.now) source.now }
     {
-        matches!(&self.begins, Beginning::Manifests(_))
-            && self.script.is_empty()
+        self.script.is_empty()
             && self.wants.is_empty()
-            && self.kinds.is_empty()
-            && !self.rechecks
+            && (self.number == 0 || joins(&self.begins, source))
+    }
+
+    /// Lets the case begin as a line of this number says.
+    fn begin(&mut self, alloc: Global, number: usize, source: Source) -> Result<(), Memory>
+        ensures { OnOk result (draft_of self.new ≡ cased.begun (draft_of self.old) number source) }
+    {
+        let before = mem::replace(&mut self.begins, Beginning::Opening);
+        self.begins = begins_with(alloc, before, number, source)?;
+        self.number = number;
+        Ok(())
     }
 
     /// The case that was read.
@@ -217,9 +228,7 @@ impl Draft {
             Form::Recheck => self.push_recheck(alloc, line),
             Form::Kinds(name) => self.push_kinds(alloc, line, name),
             Form::Want(wanted) => self.push_want(line.number, wanted),
-            Form::Begin | Form::Load(_) | Form::Event => {
-                self.push_line(alloc, line.number, line.text)
-            }
+            Form::Begin(_) | Form::Event => self.push_line(alloc, line.number, line.text),
         }
     }
 }
@@ -241,22 +250,18 @@ fn open_line(alloc: Global, names: &[u8]) -> Result<Sequence<u8>, Memory>
     Ok(Sequence::new(text))
 }
 
-/// Ends the case that is being read, and begins another.
-fn begin(
-    alloc: Global,
-    cases: &mut Vec<Case>,
-    draft: &mut Draft,
-    begins: Beginning,
-) -> Result<(), Memory>
-    ensures ended { OnOk result (cases.new.items ≡ cases.old.items ++ case_of (draft_of draft.old) ∷ []) }
-    ensures begun { OnOk result (draft_of draft.new ≡ fresh begins) }
+/// Whether a line says more of what a case begins with.
+fn joins(begins: &Beginning, source: &Source) -> bool
+    ensures { result ≡ cased.joins begins.now source.now }
 {
-    let ended = mem::replace(draft, Draft::new(alloc, begins));
-    cases.push(ended.into_case())?;
-    Ok(())
+    match (begins, source) {
+        (_, Source::Opening) | (Beginning::Lines(_), _) => false,
+        (Beginning::Manifests(_), Source::Lines(_)) => false,
+        _ => true,
+    }
 }
 
-/// Reads a line of this number that names what a case begins with.
+/// Reads a line of this number that begins a case: another one, unless the one that is being read takes the line.
 fn read_source(
     alloc: Global,
     cases: &mut Vec<Case>,
@@ -265,19 +270,13 @@ fn read_source(
     source: Source,
 ) -> Result<(), Memory>
     ensures ended { OnOk result (cases.new.items ≡ cases.old.items ++ cased.ended_at (draft_of draft.old) source) }
-    ensures begun { OnOk result (draft_of draft.new ≡ fresh (cased.begins_at (draft_of draft.old) number source)) }
+    ensures begun { OnOk result (draft_of draft.new ≡ cased.begun (cased.begun_from (draft_of draft.old) source) number source) }
 {
-    if let Source::Lines(name) = source {
-        let file = Loaded { number, name };
-        return begin(alloc, cases, draft, Beginning::Lines(file));
+    if !draft.takes(&source) {
+        let ended = mem::replace(draft, Draft::new(alloc));
+        cases.push(ended.into_case())?;
     }
-    if !draft.takes_manifests() {
-        let begins = with_manifests(alloc, Beginning::Opening, number, source)?;
-        return begin(alloc, cases, draft, begins);
-    }
-    let before = mem::replace(draft, Draft::new(alloc, Beginning::Opening));
-    draft.begins = with_manifests(alloc, before.begins, number, source)?;
-    Ok(())
+    draft.begin(alloc, number, source)
 }
 
 /// The manifests that a case begins with; no files if it begins with anything else.
@@ -293,27 +292,30 @@ fn manifests_in(alloc: Global, begins: Beginning) -> Manifests
     }
 }
 
-/// The manifests of a beginning, with what a line of this number adds.
-fn with_manifests(
+/// What a case begins with by a line of this number, after it began with this.
+fn begins_with(
     alloc: Global,
-    begins: Beginning,
+    before: Beginning,
     number: usize,
     source: Source,
 ) -> Result<Beginning, Memory>
-    ensures { IfOk result (λ b. b ≡ cased.with_manifests begins number source) }
+    ensures { IfOk result (λ b. b ≡ cased.begins_with before number source) }
 {
-    let Manifests { files, defaults } = manifests_in(alloc, begins);
-    let mut files = files.into_vec();
-    let defaults = match source {
+    let Manifests { files, defaults } = manifests_in(alloc, before);
+    match source {
+        Source::Opening => Ok(Beginning::Opening),
+        Source::Lines(name) => Ok(Beginning::Lines(Loaded { number, name })),
         Source::Manifests(name) => {
+            let mut files = files.into_vec();
             files.push(Loaded { number, name })?;
-            defaults
+            let files = Sequence::new(files);
+            Ok(Beginning::Manifests(Manifests { files, defaults }))
         }
-        Source::Defaults => true,
-        Source::Lines(_name) => defaults,
-    };
-    let files = Sequence::new(files);
-    Ok(Beginning::Manifests(Manifests { files, defaults }))
+        Source::Defaults => {
+            let defaults = true;
+            Ok(Beginning::Manifests(Manifests { files, defaults }))
+        }
+    }
 }
 
 /// Reads a line of this form; `later` are the lines after it.
@@ -329,8 +331,7 @@ fn read_form(
     ensures next { OnOk result (draft_of draft.new ≡ cased.next (draft_of draft.old) (line_of line.now) form (map line_of later.now)) }
 {
     match form {
-        Form::Begin => begin(alloc, cases, draft, Beginning::Opening),
-        Form::Load(source) => read_source(alloc, cases, draft, line.number, source),
+        Form::Begin(source) => read_source(alloc, cases, draft, line.number, source),
         form => draft.push(alloc, line, form, later),
     }
 }
@@ -364,7 +365,7 @@ pub fn cases(alloc: Global, lines: &[Line<'_>]) -> Result<Vec<Case>, Memory>
     ensures { IfOk result (λ v. v.items ≡ cased.cases_of (map line_of lines.now)) }
 {
     let mut cases = Vec::new(alloc);
-    let mut draft = Draft::new(alloc, Beginning::Opening);
+    let mut draft = Draft::new(alloc);
     let mut rest = lines;
     while let [line, later @ ..] = rest {
         read_line(alloc, &mut cases, &mut draft, line, later)?;

@@ -14,9 +14,11 @@ use kapi_lines::{as_text, copy_of};
 use kapi_text::{Memory, Sequence};
 use std::alloc::Global;
 
-/// What a line names that a case begins with.
+/// What a case begins with, by a line.
 #[derive(Drop)]
 pub enum Source {
+    /// `begin`: the opening objects alone.
+    Opening,
     /// `load FILE`: a file of objects, one a line.
     Lines(Sequence<u8>),
     /// `manifests FILE`: a file of manifests, or a folder of such files.
@@ -28,10 +30,8 @@ pub enum Source {
 /// The form of a line.
 #[derive(Drop)]
 pub enum Form {
-    /// `begin`: a new machine.
-    Begin,
-    /// A new machine, with objects.
-    Load(Source),
+    /// A new machine.
+    Begin(Source),
     /// `as USER` or `as USER,GROUP,..`: the connection of that identity. No name is empty, or begins or ends with white
     /// space.
     Actor(Sequence<u8>),
@@ -57,7 +57,7 @@ pub fn parse_form(alloc: Global, line: &[u8]) -> Result<Form, Memory>
     ensures { IfOk result (λ f. f ≡ form_of line.now) }
 {
     if line == b"begin".as_slice() {
-        return Ok(Form::Begin);
+        return Ok(Form::Begin(Source::Opening));
     }
     if line == b"pump".as_slice() {
         return Ok(Form::Pump);
@@ -66,13 +66,13 @@ pub fn parse_form(alloc: Global, line: &[u8]) -> Result<Form, Memory>
         return Ok(Form::Recheck);
     }
     if line == b"load defaults".as_slice() {
-        return Ok(Form::Load(Source::Defaults));
+        return Ok(Form::Begin(Source::Defaults));
     }
     if line.starts_with(b"load ") {
-        return Ok(Form::Load(Source::Lines(copy_of(alloc, &line[5..])?)));
+        return Ok(Form::Begin(Source::Lines(copy_of(alloc, &line[5..])?)));
     }
     if line.starts_with(b"manifests ") {
-        return Ok(Form::Load(Source::Manifests(copy_of(alloc, &line[10..])?)));
+        return Ok(Form::Begin(Source::Manifests(copy_of(alloc, &line[10..])?)));
     }
     if line.starts_with(b"kinds ") {
         return Ok(Form::Kinds(copy_of(alloc, &line[6..])?));
