@@ -1,5 +1,5 @@
 -- The answers of a case that are not as wanted.
-use Rattle.std.specs.Prelude.{◌≡◌, ℕ, Bool, true, if◌then◌else◌, List, [], ◌∷◌, ◌++◌, codes, Option, Some, None, Result, Ok, Err}
+use Rattle.std.specs.Prelude.{◌≡◌, ℕ, ◌==◌, Bool, true, if◌then◌else◌, List, [], ◌∷◌, ◌++◌, length, codes, Option, Some, None, Result, Ok, Err}
 use Rattle.std.specs.List.{flat_map}
 use Rattle.std.specs.Str.{bytes_eq}
 use Rattle.kapi_core.specs.Machine.{Machine, with_rechecks}
@@ -48,9 +48,10 @@ abbrev pub bare : Failure → Failure
 bare (failure.Differs d) = failure.Differs (record d { reason = [] })
 bare f = f
 
--- the failures of a case that is answered by this text, a line an event
+-- the failures of a case that is answered by this text, a line an event; a case in which nothing is wanted fails
 abbrev pub differences : Case → List ℕ → List Failure
-differences c text = flat_map (unmet c.script (parts_of text)) c.wants
+differences c text =
+    if length c.wants == 0 then failure.NoCheck c.number ∷ [] else flat_map (unmet c.script (parts_of text)) c.wants
 
 -- the text of an event, if there is one
 abbrev pub text_or : Option ScriptLine → List ℕ

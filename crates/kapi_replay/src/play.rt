@@ -86,10 +86,13 @@ fn check_want(
     Ok(())
 }
 
-/// The failures of a case with these answers.
+/// The failures of a case with these answers; a case that wants none is one itself.
 fn differences(alloc: Global, case: &Case, text: &[u8]) -> Result<Vec<Failure>, Memory>
     ensures { IfOk result (λ v. v.items ≡ fails.differences case.now text.now) }
 {
+    if case.wants.as_slice().is_empty() {
+        return only(alloc, Failure::NoCheck(case.number));
+    }
     let answers = split_lines(alloc, text)?;
     let mut failures = Vec::new(alloc);
     for want in case.wants.as_slice() {

@@ -46,7 +46,7 @@ fresh = record { number = 0; begins = beginning.Opening; kinds = []; rechecks = 
 
 -- the case that was read
 abbrev pub case_of : PlainDraft → Case
-case_of d = record { begins = d.begins; kinds = d.kinds; rechecks = d.rechecks; script = d.script; wants = d.wants }
+case_of d = record { number = if d.number == 0 then 1 else d.number; begins = d.begins; kinds = d.kinds; rechecks = d.rechecks; script = d.script; wants = d.wants }
 
 -- ---- what a line adds
 

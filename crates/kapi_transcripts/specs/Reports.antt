@@ -26,6 +26,7 @@ abbrev pub number_of : Failure → ℕ
 number_of (failure.Differs d) = d.number
 number_of (failure.NoForm n reason) = n
 number_of (failure.NoFile n) = n
+number_of (failure.NoCheck n) = n
 number_of (failure.NotLoaded n line reason) = n
 number_of (failure.BadManifests n reason) = n
 
@@ -60,6 +61,7 @@ abbrev pub what_text : List (List ℕ) → Failure → List ℕ
 what_text lines (failure.Differs d) = difference_text lines d
 what_text lines (failure.NoForm n reason) = codes ": no known form" ++ reason_text reason
 what_text lines (failure.NoFile n) = codes ": the file cannot be read"
+what_text lines (failure.NoCheck n) = codes ": the case that begins here checks nothing"
 what_text lines (failure.NotLoaded n line reason) = number_line (codes ": load line ") line ++ reason_text reason
 what_text lines (failure.BadManifests n reason) = manifests_text reason
 
@@ -71,19 +73,14 @@ failure_text name lines f = (place_text name (number_of f) ++ what_text lines f)
 abbrev pub failures_text : List ℕ → List (List ℕ) → List Failure → List ℕ
 failures_text name lines failures = flat_map (failure_text name lines) failures
 
--- the end of a report without failures: whether anything was checked
-unfoldable pub well_text : ℕ → List ℕ
-well_text wanted = if wanted == 0 then codes ": it checks nothing\n" else codes "\n"
-
--- how many failures there are; if there are none, whether anything was checked
-abbrev pub count_text : ℕ → ℕ → List ℕ
-count_text wanted failures =
-    if failures == 0 then well_text wanted else number_line (codes ", ") failures ++ codes " not as wanted\n"
+-- how many failures there are, if there are some
+abbrev pub count_text : ℕ → List ℕ
+count_text failures = if failures == 0 then codes "\n" else number_line (codes ", ") failures ++ codes " not as wanted\n"
 
 -- the failures of a transcript, and then how many checks it has
 abbrev pub report_text : List (List ℕ) → Outcome → List ℕ
 report_text lines o =
-    (((failures_text o.name lines o.failures ++ o.name) ++ number_line (codes ": ") (length o.checks)) ++ codes " checks") ++ count_text (length o.checks) (length o.failures)
+    (((failures_text o.name lines o.failures ++ o.name) ++ number_line (codes ": ") (length o.checks)) ++ codes " checks") ++ count_text (length o.failures)
 
 -- ---- a transcript with the answers that came
 

@@ -45,6 +45,8 @@ pub struct Want {
 /// A case of a transcript: a script on a machine of its own, and what is wanted of its answers.
 #[derive(Drop)]
 pub struct Case {
+    /// The line that begins it, or the first line if none does.
+    pub number: usize,
     pub begins: Beginning,
     /// The files of the kinds that the machine serves besides those of the programs.
     pub kinds: Sequence<Loaded>,

@@ -73,6 +73,7 @@ impl Draft {
         ensures { result ≡ case_of (draft_of self) }
     {
         Case {
+            number: if self.number == 0 { 1 } else { self.number },
             begins: self.begins,
             kinds: Sequence::new(self.kinds),
             rechecks: self.rechecks,

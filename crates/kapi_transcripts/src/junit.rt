@@ -104,23 +104,17 @@ fn push_cases(
     Ok(())
 }
 
-/// Whether nothing is checked, and nothing else is wrong.
-fn checks_nothing(outcome: &Outcome) -> bool {
-    outcome.checks.as_slice().is_empty() && outcome.failures.as_slice().is_empty()
-}
-
 /// Appends how a suite begins: how many cases it has, how many of them fail, and how many were not compared.
 fn push_head(text: &mut String, outcome: &Outcome) -> Result<(), Memory> {
     let suite = Xml(outcome.name.as_str().as_bytes());
     let checks = outcome.checks.as_slice();
     let failures = outcome.failures.as_slice();
-    let nothings = usize::from(checks_nothing(outcome));
     let others = failures
         .iter()
         .filter(|failure| !is_difference(failure))
         .count();
-    let tests = checks.len() + others + nothings;
-    let failed = failures.len() + nothings;
+    let tests = checks.len() + others;
+    let failed = failures.len();
     let skipped = checks.iter().filter(|check| !check.compared).count();
     write!(
         text,
@@ -138,11 +132,6 @@ fn push_suite(
     let lines = split_lines(alloc, transcript.file.bytes.as_slice())?;
     push_head(text, outcome)?;
     push_cases(alloc, text, lines.as_slice(), outcome)?;
-    if checks_nothing(outcome) {
-        let class = Xml(outcome.name.as_str().as_bytes());
-        write!(text, "<testcase classname=\"{class}\" name=\"checks\">")?;
-        text.push_str("<failure>it checks nothing</failure></testcase>\n")?;
-    }
     text.push_str("</testsuite>\n")
 }
 

@@ -79,6 +79,9 @@ fn push_what(text: &mut Vec<u8>, lines: &[Sequence<u8>], failure: &Failure) -> R
             push_reason(text, reason)
         }
         Failure::NoFile(_number) => Ok(text.extend_from_slice(b": the file cannot be read")?),
+        Failure::NoCheck(_number) => {
+            Ok(text.extend_from_slice(b": the case that begins here checks nothing")?)
+        }
         Failure::NotLoaded(_number, line, reason) => {
             push_number(text, b": load line ", *line)?;
             push_reason(text, reason)
@@ -122,6 +125,7 @@ pub fn number_of(failure: &Failure) -> usize
         Failure::Differs(difference) => difference.number,
         Failure::NoForm(number, _reason) => *number,
         Failure::NoFile(number) => *number,
+        Failure::NoCheck(number) => *number,
         Failure::NotLoaded(number, _line, _reason) => *number,
         Failure::BadManifests(number, _reason) => *number,
     }
@@ -163,28 +167,16 @@ fn push_failures(
     Ok(())
 }
 
-/// Appends how many failures there are; if there are none, whether anything was checked.
-fn push_count(text: &mut Vec<u8>, wanted: usize, failures: usize) -> Result<(), Memory>
-    ensures { OnOk result (text.new.items ≡ text.old.items ++ reports.count_text wanted failures) }
+/// Appends how many failures there are, if there are some.
+fn push_count(text: &mut Vec<u8>, failures: usize) -> Result<(), Memory>
+    ensures { OnOk result (text.new.items ≡ text.old.items ++ reports.count_text failures) }
 {
     if failures == 0 {
-        return Ok(text.extend_from_slice(well_text(wanted))?);
+        return Ok(text.extend_from_slice(b"\n")?);
     }
     push_number(text, b", ", failures)?;
     text.extend_from_slice(b" not as wanted\n")?;
     Ok(())
-}
-
-/// The end of a report without failures: whether anything was checked.
-#[tactic(auto, unfolding(crate::specs::Reports::well_text))]
-fn well_text(wanted: usize) -> &'static [u8]
-    ensures { result.now ≡ reports.well_text wanted }
-{
-    if wanted == 0 {
-        b": it checks nothing\n".as_slice()
-    } else {
-        b"\n".as_slice()
-    }
 }
 
 /// The report of a transcript: each failure, and how many checks it has.
@@ -193,12 +185,11 @@ fn report(alloc: Global, lines: &[Sequence<u8>], outcome: &Outcome) -> Result<Ve
 {
     let mut text = Vec::new(alloc);
     let name = outcome.name.as_str();
-    let checks = outcome.checks.as_slice().len();
     push_failures(&mut text, name, lines, outcome.failures.as_slice())?;
     text.extend_from_slice(name.as_bytes())?;
-    push_number(&mut text, b": ", checks)?;
+    push_number(&mut text, b": ", outcome.checks.as_slice().len())?;
     text.extend_from_slice(b" checks")?;
-    push_count(&mut text, checks, outcome.failures.as_slice().len())?;
+    push_count(&mut text, outcome.failures.as_slice().len())?;
     Ok(text)
 }
 
