@@ -87,6 +87,9 @@ MORE = {"scoped": lines(SCOPED), "placed": PLACED, "homeless": lines(thing("Widg
         "unplaced": HEADS[1].replace("placed", "homeless") + PLAYED}
 CASES = [
     *[Case("replay played", told="played: 2 checks\n", files={**MORE, "played": head + PLAYED}) for head in HEADS],
+    # what a line names that holds no kind: a file, a file of a folder, a folder without files that are read
+    *[Case("replay bare", 1, told="bare:2: the file or folder holds no kind\nbare: 2 checks, 1 not as wanted\n", files={"bare": f"begin\nkinds {name}\nkinds own\n{PLAYED}", path: "\n"})
+      for name, path in (("blank", "blank"), ("folder", "folder/1.json"), ("hidden", "hidden/.kinds"))],
     Case("replay unplaced", 1, None, re.compile(".*metadata.namespace: required of Widget w.*", re.S)),
     Case("audit --manifests bound questions --kinds own --strict", told="denied\n"),
     Case("audit --manifests bound questions --strict", 1, "no rule names the resource widgets", "denied\n"),

@@ -2,10 +2,10 @@
 use Rattle.std.specs.Prelude.{◌≡◌, ℕ, List, [], ◌∷◌, Option, Some, None}
 use Rattle.kapi_core.specs.Machine.{with_rechecks}
 use Rattle.kapi_replay.specs.Failures.{FailsLoaded, FailsOn}
-use Rattle.kapi_transcripts.specs.Files.{only_text, texts_named}
+use Rattle.kapi_transcripts.specs.Files.{file_named, only_text, texts_named}
 use Rattle.kapi_manifests.specs.declared.fault.Origin.{Origin}
-use Rattle.kapi_replay.specs.Kinds.{table_of}
-use Rattle.kapi_replay.specs.Manifests.{FailsManifests, IsFaultAt, first_missing}
+use Rattle.kapi_replay.specs.Kinds.{first_blank, table_of}
+use Rattle.kapi_replay.specs.Manifests.{FailsManifests, IsFaultAt}
 use Rattle.kapi_transcripts.specs.declared.failure.Failure.{Failure}
 use Rattle.kapi_transcripts.specs.declared.failure.Failure.TheVariants as failure
 use Rattle.kapi_transcripts.specs.declared.files.LoadedFile.{LoadedFile}
@@ -41,10 +41,19 @@ abbrev pub FailsOver : List LoadedFile → Case → Option (List ResourceRow) �
 FailsOver loads c (Some table) failures = FailsFrom table loads c c.begins failures
 FailsOver loads c None failures = IsBadKinds loads c.kinds failures
 
--- the failures of a case, by its first missing file of kinds, if there is one
+-- the failure of a file or folder of kinds, by what is found of it
+abbrev pub no_kind_in : Loaded → Option LoadedFile → Failure
+no_kind_in file None = failure.NoFile file.number
+no_kind_in file (Some found) = failure.NoKind file.number
+
+-- the failure of a file or folder of kinds that holds none, or is not there
+abbrev pub no_kind : List LoadedFile → Loaded → Failure
+no_kind loads file = no_kind_in file (file_named loads file.name)
+
+-- the failures of a case, by its first file or folder of kinds that holds none or is not there, if there is one
 abbrev pub FailsKinds : List LoadedFile → Case → Option Loaded → List Failure → Type 0
 FailsKinds loads c None failures = FailsOver loads c (table_of loads c) failures
-FailsKinds loads c (Some file) failures = failures ≡ failure.NoFile file.number ∷ []
+FailsKinds loads c (Some file) failures = failures ≡ no_kind loads file ∷ []
 
 abbrev pub Fails : List LoadedFile → Case → List Failure → Type 0
-Fails loads c failures = FailsKinds loads c (first_missing loads c.kinds) failures
+Fails loads c failures = FailsKinds loads c (first_blank loads c.kinds) failures

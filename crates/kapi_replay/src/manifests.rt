@@ -19,7 +19,7 @@ use std::alloc::{AllocError, Global};
 use std::sync::Wait;
 
 /// The first file that is not there, or is a folder without files.
-pub fn first_missing<'a>(loads: &[LoadedFile], files: &'a [Loaded]) -> Option<&'a Loaded>
+fn first_missing<'a>(loads: &[LoadedFile], files: &'a [Loaded]) -> Option<&'a Loaded>
     ensures { option_map (λ f. f.now) result ≡ manifests.first_missing loads.now files.now }
 {
     files

@@ -2,15 +2,18 @@
 ghost use Rattle.std.specs.Prelude.{◌≡◌, ◌<◌, true, IfOk, length};
 ghost use Rattle.kapi_core.specs.Table.{fits};
 ghost use Rattle.kapi_replay.specs.Kinds.{table_of};
+ghost use Rattle.kapi_replay.specs.Playing as playing;
 ghost use Rattle.kapi_replay.specs.Playing.{Fails, FailsFrom, FailsLines, FailsOver, IsBadKinds};
 
-use crate::kinds::read_kinds;
-use crate::manifests::{fault_failure, first_missing, play_manifests};
+use crate::kinds::{first_blank, read_kinds};
+use crate::manifests::{fault_failure, play_manifests};
 use crate::play::{only, play_begun, play_loaded};
 use kapi_kinds::{Fault, Kinds};
 use kapi_model::ResourceRow;
 use kapi_text::{Memory, Sequence};
-use kapi_transcripts::{Beginning, Case, Failure, Loaded, LoadedFile, only_text, texts_named};
+use kapi_transcripts::{
+    Beginning, Case, Failure, Loaded, LoadedFile, file_named, only_text, texts_named,
+};
 use std::alloc::Global;
 use std::sync::Wait;
 
@@ -86,6 +89,16 @@ fn play_kinds<R: Wait>(
     }
 }
 
+/// The failure of a file or folder of kinds that holds none, or is not there.
+fn no_kind(loads: &[LoadedFile], file: &Loaded) -> Failure
+    ensures { result ≡ playing.no_kind loads.now file.now }
+{
+    match file_named(loads, file.name.as_slice()) {
+        Some(_found) => Failure::NoKind(file.number),
+        None => Failure::NoFile(file.number),
+    }
+}
+
 /// The failures of a case. `loads` are what the case may load.
 pub fn play_case<R: Wait>(
     alloc: Global,
@@ -95,8 +108,8 @@ pub fn play_case<R: Wait>(
 ) -> Result<Vec<Failure>, Memory>
     ensures { IfOk result (λ v. Fails loads.now case.now v.items) }
 {
-    match first_missing(loads, case.kinds.as_slice()) {
-        Some(file) => only(alloc, Failure::NoFile(file.number)),
+    match first_blank(alloc, loads, case.kinds.as_slice())? {
+        Some(file) => only(alloc, no_kind(loads, file)),
         None => play_kinds(alloc, rt, loads, case),
     }
 }

@@ -26,6 +26,7 @@ abbrev pub number_of : Failure → ℕ
 number_of (failure.Differs d) = d.number
 number_of (failure.NoForm n reason) = n
 number_of (failure.NoFile n) = n
+number_of (failure.NoKind n) = n
 number_of (failure.NoCheck n) = n
 number_of (failure.NotLoaded n line reason) = n
 number_of (failure.BadManifests n reason) = n
@@ -61,6 +62,7 @@ abbrev pub what_text : List (List ℕ) → Failure → List ℕ
 what_text lines (failure.Differs d) = difference_text lines d
 what_text lines (failure.NoForm n reason) = codes ": no known form" ++ reason_text reason
 what_text lines (failure.NoFile n) = codes ": the file cannot be read"
+what_text lines (failure.NoKind n) = codes ": the file or folder holds no kind"
 what_text lines (failure.NoCheck n) = codes ": the case that begins here checks nothing"
 what_text lines (failure.NotLoaded n line reason) = number_line (codes ": load line ") line ++ reason_text reason
 what_text lines (failure.BadManifests n reason) = manifests_text reason

@@ -23,6 +23,8 @@ pub enum Failure {
     NoForm(usize, Text),
     /// The file that this line names is not there.
     NoFile(usize),
+    /// What this line names holds no kind.
+    NoKind(usize),
     /// Nothing is wanted in the case that begins at this line.
     NoCheck(usize),
     /// A file is not loaded: the line of the transcript that names it, the line of the file at fault, and the reason.

@@ -28,7 +28,7 @@ pub struct Transcript {
 }
 
 /// The first file of that name.
-fn file_named<'a>(loads: &'a [LoadedFile], name: &[u8]) -> Option<&'a LoadedFile>
+pub fn file_named<'a>(loads: &'a [LoadedFile], name: &[u8]) -> Option<&'a LoadedFile>
     ensures { option_map (λ f. f.now) result ≡ files.file_named loads.now name.now }
 {
     loads

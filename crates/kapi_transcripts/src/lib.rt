@@ -22,7 +22,7 @@ pub use case::{Beginning, Case, Loaded, Manifests, ScriptLine, Want};
 pub use correction::{corrected, exactly};
 pub use draft::{Draft, cases};
 pub use failure::{Check, Difference, Doubt, Failure, Outcome};
-pub use files::{LoadedFile, NamedFile, Transcript, only_text, texts_named};
+pub use files::{LoadedFile, NamedFile, Transcript, file_named, only_text, texts_named};
 pub use form::{Form, Source, parse_form};
 pub use junit::junit_text;
 pub use loads::{cases_in, loaded_names};

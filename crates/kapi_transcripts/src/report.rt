@@ -79,6 +79,9 @@ fn push_what(text: &mut Vec<u8>, lines: &[Sequence<u8>], failure: &Failure) -> R
             push_reason(text, reason)
         }
         Failure::NoFile(_number) => Ok(text.extend_from_slice(b": the file cannot be read")?),
+        Failure::NoKind(_number) => {
+            Ok(text.extend_from_slice(b": the file or folder holds no kind")?)
+        }
         Failure::NoCheck(_number) => {
             Ok(text.extend_from_slice(b": the case that begins here checks nothing")?)
         }
@@ -125,6 +128,7 @@ pub fn number_of(failure: &Failure) -> usize
         Failure::Differs(difference) => difference.number,
         Failure::NoForm(number, _reason) => *number,
         Failure::NoFile(number) => *number,
+        Failure::NoKind(number) => *number,
         Failure::NoCheck(number) => *number,
         Failure::NotLoaded(number, _line, _reason) => *number,
         Failure::BadManifests(number, _reason) => *number,
