@@ -35,7 +35,7 @@ LINE_BYTES = 64_000_000
 LABELS, REQUIREMENTS, PATCHES = 2_000, 5_000, 200
 GROUPS, REPEATS, BINDINGS = 16_000, 1_000, 2_000
 STARVED_CLIENTS, STARVED_SECONDS, LONG = 50, 20, 320
-IDLE_CLIENTS, LISTED, WIDE, CHECKED, LABELLED = 320, 100_000, 56, 1_000, 5_000
+IDLE_CLIENTS, LET_IN, LISTED, WIDE, CHECKED, LABELLED = 320, 100, 100_000, 56, 1_000, 5_000
 QUIET, REMOVED = 100, 1_024
 RULES = 300
 SELECTED, SUBJECTS = 5_000, 32_000
@@ -312,24 +312,30 @@ def stays(client, seconds=0.01):
 
 
 def idle(program):
-    """Clients that connect and send nothing."""
+    """Clients that connect and send nothing, and then clients of root, which stay."""
     with answering(program):
         clients = [connect(ports.ANN) for _client in range(IDLE_CLIENTS)]
         time.sleep(1)
-        locked = not is_served()
-        for client in clients:
-            client.close()
-        time.sleep(1)
-        return ("root locked out", locked, None), ("once they have left", not is_served(), 0)
+        begin, others = time.monotonic(), [connect(ports.ROOT) for _client in range(LET_IN)]
+        locked, waited = sum(not is_answered(other) for other in others), time.monotonic() - begin
+        lost = sum(not is_answered(other) for other in others)
+        left = sum(map(stays, clients))
+    return (f"of {LET_IN} clients of root locked out", locked, 0), ("seconds until they are answered", waited, 1), ("clients of root that are ended later", lost, 0), ("idle ones left", left, None)
+
+
+def is_answered(client, seconds=2):
+    """Whether a client's get is answered within so many seconds."""
+    with contextlib.suppress(OSError):
+        client.settimeout(seconds)
+        client.sendall(GET)
+        return bool(client.recv(65536))
+    return False
 
 
 def is_served(seconds=2):
     """Whether root is answered within so many seconds."""
-    with connect(ports.ROOT) as client, contextlib.suppress(OSError):
-        client.settimeout(seconds)
-        client.sendall(GET)
-        return bool(client.recv(16))
-    return False
+    with connect(ports.ROOT) as client:
+        return is_answered(client, seconds)
 
 
 def readers(program):

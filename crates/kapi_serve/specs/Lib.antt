@@ -8,3 +8,4 @@ pub mod Rechecked
 pub mod Rests
 pub mod Private
 pub mod Listening
+pub mod Places

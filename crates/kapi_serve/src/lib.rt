@@ -10,6 +10,7 @@ mod clients;
 mod listener;
 mod marks;
 mod pending;
+mod places;
 mod port;
 mod progress;
 mod publishing;

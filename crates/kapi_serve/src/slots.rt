@@ -1,13 +1,16 @@
 ghost use Rattle.std.specs.Prelude.{◌≡◌, ◌<◌, ◌≤◌, ◌+◌, ◌-◌, ℕ, All, IfOk, IfSome, None, Some, true, false, is_some, length, min, vec_len};
 ghost use Rattle.std.specs.List.{HoldsAt, list_any};
+ghost use Rattle.kapi_serve.specs.Places.{IsLetIn, MakesRoom, count_by, is_leaving};
 ghost use Rattle.kapi_serve.specs.Private.Ready.{has_turn_next};
 ghost use Rattle.kapi_serve.specs.Private.Turns.{may_be_read};
 ghost use Rattle.kapi_serve.specs.declared.port.PortEvent.{PortEvent as AnEvent};
 ghost use Rattle.kapi_serve.specs.declared.port.PortEvent.TheVariants as event;
 ghost use Rattle.kapi_model.specs.declared.identity.Identity.{Identity as AnIdentity};
 
+use crate::places::{count, displaced, is_some_leaving, taken};
 use crate::port::PortEvent;
 use crate::stream::Stream;
+use kapi_core::OPEN_CONNECTIONS;
 use mio::event::Event;
 use mio::net::TcpStream;
 use std::alloc::Global;
@@ -22,6 +25,8 @@ const MOST_OPEN: usize = 320;
 #[derive(Drop)]
 pub(crate) struct Slots {
     streams: Vec<Option<Stream>>,
+    /// The number of this round.
+    round: u64,
     /// The slots from this one on have not had their turn in this round.
     turn: usize,
     /// The slots from this one on have no event.
@@ -36,6 +41,7 @@ impl Slots {
     pub(crate) fn new(alloc: Global) -> Slots {
         Slots {
             streams: Vec::new(alloc),
+            round: 0,
             turn: 0,
             end: 0,
             left: false,
@@ -61,13 +67,13 @@ impl Slots {
         }
     }
 
-    /// Puts the stream of a client that has connected into a slot.
-    pub(crate) fn put(&mut self, slot: usize, socket: TcpStream)
+    /// Puts the stream of a client that has connected by a listener into a slot.
+    pub(crate) fn put(&mut self, slot: usize, socket: TcpStream, listener: usize)
         requires { slot < vec_len self.old.streams }
         ensures len { vec_len self.new.streams ≡ vec_len self.old.streams }
         ensures there { HoldsAt (λ place. is_some place ≡ true) self.new.streams.items slot }
     {
-        self.streams[slot] = Some(Stream::new(socket));
+        self.streams[slot] = Some(Stream::new(socket, listener, self.round));
     }
 
     /// Takes the stream out of a slot.
@@ -83,6 +89,7 @@ impl Slots {
     pub(crate) fn begin(&mut self)
         ensures { self.new.left ≡ false }
     {
+        self.round = self.round.saturating_add(1);
         if self.left || self.turn < self.end {
             self.turn = 0;
             self.left = false;
@@ -155,6 +162,48 @@ impl Slots {
         false
     }
 
+    /// The number of clients that came by a listener.
+    pub(crate) fn count(&self, listener: usize) -> usize
+        ensures { result ≡ count_by listener self.now.streams.items }
+    {
+        count(self.streams.as_slice(), listener)
+    }
+
+    /// Whether a client that waits at a listener is let in. If all places are taken, and more clients came by another
+    /// listener, it is not, until one of those has left that came by the listener of the most, and has idled longest.
+    pub(crate) fn make_room(&mut self, listener: usize, listeners: usize) -> bool
+        ensures len { vec_len self.new.streams ≡ vec_len self.old.streams }
+        ensures let_in { result ≡ true → IsLetIn listener listeners self.old.streams.items }
+        ensures refused { result ≡ false → MakesRoom listener listeners self.old.streams.items self.new.streams.items }
+    {
+        if taken(self.streams.as_slice()) < OPEN_CONNECTIONS {
+            return true;
+        }
+        if is_some_leaving(self.streams.as_slice()) {
+            return false;
+        }
+        match displaced(self.streams.as_slice(), listener, listeners) {
+            Some(slot) => {
+                self.break_off(slot);
+                false
+            }
+            None => true,
+        }
+    }
+
+    /// Breaks the stream of a slot.
+    fn break_off(&mut self, slot: usize)
+        requires { slot < vec_len self.old.streams }
+        ensures len { vec_len self.new.streams ≡ vec_len self.old.streams }
+        ensures leaving { HoldsAt (λ place. is_some place ≡ true → HoldsAt (λ its. is_leaving its ≡ true) self.new.streams.items slot) self.old.streams.items slot }
+    {
+        self.left = true;
+        self.end = self.streams.len();
+        if let Some(stream) = &mut self.streams[slot] {
+            stream.break_off();
+        }
+    }
+
     /// Breaks the first of the streams that have taken nothing for too long.
     pub(crate) fn break_stuck(&mut self, now: Duration) {
         self.left = true;
@@ -170,7 +219,7 @@ impl Slots {
         if slot >= self.streams.len() {
             return None;
         }
-        let read = read_at(&mut self.streams[slot], buffer);
+        let read = read_at(&mut self.streams[slot], buffer, self.round);
         if is_ready_at(&self.streams[slot]) {
             self.left = true;
             self.end = self.end.max(slot + 1);
@@ -198,7 +247,7 @@ impl Slots {
         if slot >= self.streams.len() {
             return None;
         }
-        let written = write_at(&mut self.streams[slot], bytes, now);
+        let written = write_at(&mut self.streams[slot], bytes, self.round, now);
         if is_ready_at(&self.streams[slot]) {
             self.left = true;
             self.end = self.end.max(slot + 1);
@@ -217,21 +266,26 @@ fn break_first(streams: &mut [Option<Stream>], now: Duration)
     }
 }
 
-fn read_at(place: &mut Option<Stream>, buffer: &mut [u8]) -> Option<io::Result<usize>>
+fn read_at(place: &mut Option<Stream>, buffer: &mut [u8], round: u64) -> Option<io::Result<usize>>
     ensures len { length buffer.new ≡ length buffer.old }
     ensures bound { IfSome result (λ r. IfOk r (λ n. n ≤ length buffer.new)) }
 {
     match place {
-        Some(stream) => Some(stream.read(buffer)),
+        Some(stream) => Some(stream.read(buffer, round)),
         None => None,
     }
 }
 
-fn write_at(place: &mut Option<Stream>, bytes: &[u8], now: Duration) -> Option<io::Result<usize>>
+fn write_at(
+    place: &mut Option<Stream>,
+    bytes: &[u8],
+    round: u64,
+    now: Duration,
+) -> Option<io::Result<usize>>
     ensures { IfSome result (λ r. IfOk r (λ n. n ≤ length bytes.now)) }
 {
     match place {
-        Some(stream) => Some(stream.write(bytes, now)),
+        Some(stream) => Some(stream.write(bytes, round, now)),
         None => None,
     }
 }

@@ -1,10 +1,11 @@
-ghost use Rattle.std.specs.Prelude.{◌≡◌, ◌<◌, ◌≤◌, ◌||◌, ◌++◌, ◌∷◌, [], All, Err, HoldsAt, IfOk, IfSome, None, OnOk, Some, false, true, vec_len};
+ghost use Rattle.std.specs.Prelude.{◌≡◌, ◌<◌, ◌≤◌, ◌||◌, ◌++◌, ◌∷◌, ℕ, [], All, Err, HoldsAt, IfOk, IfSome, None, OnOk, Some, false, length, nat_lt, true, vec_len};
 ghost use Rattle.mio.specs.Event.{event_token};
 ghost use Rattle.std.specs.IoError.{error_kind};
 ghost use Rattle.std.specs.List.{list_any};
 ghost use Rattle.std.specs.declared.io.Error.{Error as AnError};
 ghost use Rattle.std.specs.declared.io.ErrorKind.TheVariants as kind;
 ghost use Rattle.kapi_serve.specs.Listening.{CameByDoor, doors};
+ghost use Rattle.kapi_serve.specs.Places.{count_by};
 ghost use Rattle.kapi_serve.specs.Private.Ready.{has_turn_next};
 ghost use Rattle.kapi_serve.specs.declared.port.PortEvent.TheVariants as event;
 ghost use Rattle.kapi_serve.specs.declared.port.PortFault.TheVariants as fault;
@@ -90,20 +91,22 @@ impl<C: Clock + Drop> Sockets<C> {
         Ok(listened)
     }
 
-    /// Accepts one client, if one waits and a slot is free. If none is, a client that takes nothing loses its slot.
+    /// Accepts one client, if one waits and is let in. If no slot is free, a client that takes nothing loses its own.
     fn accept(&mut self) -> Option<PortEvent>
         ensures doors { doors self.new.listeners.items ≡ doors self.old.listeners.items }
         ensures identity { CameByDoor self.old.listeners.items result }
     {
-        for index in 0..self.listeners.len() {
-            if self.listeners[index].has_turn() {
-                let Some(slot) = self.slots.free() else {
-                    self.slots.break_stuck(self.now);
-                    return None;
-                };
-                if let Some(event) = self.accept_or_pause(index, slot) {
-                    return Some(event);
-                }
+        for _turn in 0..self.listeners.len() {
+            let index = next_listener(self.listeners.as_slice(), &self.slots)?;
+            if !self.slots.make_room(index, self.listeners.len()) {
+                return None;
+            }
+            let Some(slot) = self.slots.free() else {
+                self.slots.break_stuck(self.now);
+                return None;
+            };
+            if let Some(event) = self.accept_or_pause(index, slot) {
+                return Some(event);
             }
         }
         None
@@ -143,7 +146,7 @@ impl<C: Clock + Drop> Sockets<C> {
             Token(self.listeners.len().saturating_add(slot)),
             Interest::READABLE | Interest::WRITABLE,
         )?;
-        self.slots.put(slot, socket);
+        self.slots.put(slot, socket, index);
         Ok(PortEvent::Opened(slot, identity))
     }
 
@@ -216,6 +219,33 @@ impl<C: Clock + Drop> Sockets<C> {
         }
         self.failures += 1;
         PortFault::Failed
+    }
+}
+
+/// The listener that may accept a client now: of those at which one waits, that by which the fewest came.
+fn next_listener(listeners: &[Listener], slots: &Slots) -> Option<usize>
+    ensures bound { IfSome result (λ index. index < length listeners.now) }
+    ensures fewest { IfSome result (λ index. (other : ℕ) → other < length listeners.now → HoldsAt (λ listener. listener.waiting ≡ true → 0 < listener.left
+        → count_by index slots.now.streams.items ≤ count_by other slots.now.streams.items) listeners.now other) }
+    ensures none { result ≡ None → (other : ℕ) → other < length listeners.now → HoldsAt (λ listener. listener.waiting ≡ true → 0 < listener.left → ⊥) listeners.now other }
+{
+    let mut found = None;
+    for index in 0..listeners.len() {
+        if listeners[index].has_turn() && has_fewer(slots, index, found) {
+            found = Some(index);
+        }
+    }
+    found
+}
+
+/// Whether fewer clients came by a listener than by another, if there is one.
+fn has_fewer(slots: &Slots, index: usize, other: Option<usize>) -> bool
+    ensures fewer { IfSome other (λ o. result ≡ nat_lt (count_by index slots.now.streams.items) (count_by o slots.now.streams.items)) }
+    ensures none { other ≡ None → result ≡ true }
+{
+    match other {
+        Some(other) => slots.count(index) < slots.count(other),
+        None => true,
     }
 }
 

@@ -1,4 +1,4 @@
-ghost use Rattle.std.specs.Prelude.{not, ◌≡◌, ◌||◌, ◌+◌, ◌<◌, ◌≤◌, None, Some, true, false, IfOk, IsErr, length};
+ghost use Rattle.std.specs.Prelude.{not, ◌≡◌, ◌||◌, ◌+◌, ◌<◌, ◌≤◌, None, Some, true, false, IfOk, IsErr, OnOk, length};
 ghost use Rattle.std.specs.declared.time.Duration.{Duration as ADuration};
 ghost use Rattle.mio.specs.Event.{is_error, is_read_closed, is_writable};
 ghost use Rattle.kapi_serve.specs.Private.Turns.{may_be_read, turn_of};
@@ -24,6 +24,12 @@ const PATIENCE: u64 = 60;
 #[derive(Drop)]
 pub(crate) struct Stream {
     socket: TcpStream,
+    /// The listener by which the client came.
+    pub(crate) listener: usize,
+    /// The round in which the client last sent or took something.
+    pub(crate) used: u64,
+    /// The connection was broken off, and is about to end.
+    pub(crate) leaving: bool,
     /// The socket may have bytes, or their end.
     readable: bool,
     /// The bytes have ended, or the socket has failed, so that a read reports it.
@@ -40,11 +46,15 @@ pub(crate) struct Stream {
 }
 
 impl Stream {
-    pub(crate) fn new(socket: TcpStream) -> Stream
+    pub(crate) fn new(socket: TcpStream, listener: usize, round: u64) -> Stream
         ensures idle { (result.writable || result.readable) ≡ false }
+        ensures came { (result.listener ≡ listener) × (result.used ≡ round) × (result.leaving ≡ false) }
     {
         Stream {
             socket,
+            listener,
+            used: round,
+            leaving: false,
             readable: false,
             ended: false,
             drained: false,
@@ -109,13 +119,14 @@ impl Stream {
 
     /// Reads within the share. When it is used up, or writes wait for their turn, reading goes on at the next turn. A
     /// read that is given less than it asks for has emptied the socket, and the next one need not ask.
-    pub(crate) fn read(&mut self, buffer: &mut [u8]) -> io::Result<usize>
+    pub(crate) fn read(&mut self, buffer: &mut [u8], round: u64) -> io::Result<usize>
         ensures len { length buffer.new ≡ length buffer.old }
         ensures bound { IfOk result (λ n. n ≤ length buffer.new) }
         ensures share { IfOk result (λ n. n + self.new.read_left ≡ self.old.read_left) }
         ensures used_up { self.old.read_left ≡ 0 → IsErr result × (self.new.readable ≡ true) }
         ensures drained { IfOk result (λ n. self.new.drained ≡ true → (n < length buffer.old) × (n < self.old.read_left) × (self.old.ended ≡ false)) }
         ensures kept { IsErr result → self.new.drained ≡ self.old.drained }
+        ensures used { OnOk result (self.new.used ≡ round) }
     {
         let most = self.read_left.min(buffer.len());
         if most == 0 || self.writable {
@@ -128,15 +139,17 @@ impl Stream {
         let count = self.socket.read(&mut buffer[..most])?;
         self.drained = count < most && !self.ended;
         self.read_left -= count;
+        self.used = round;
         Ok(count)
     }
 
     /// Writes within the share. When the share is used up, writing goes on at the next turn.
-    pub(crate) fn write(&mut self, bytes: &[u8], now: Duration) -> io::Result<usize>
+    pub(crate) fn write(&mut self, bytes: &[u8], round: u64, now: Duration) -> io::Result<usize>
         ensures bound { IfOk result (λ n. n ≤ length bytes.now) }
         ensures share { IfOk result (λ n. n + self.new.write_left ≡ self.old.write_left) }
         ensures used_up { self.old.write_left ≡ 0 → IsErr result × (self.new.writable ≡ true) }
         ensures taken { IfOk result (λ _. self.new.blocked_since ≡ None) }
+        ensures used { OnOk result (self.new.used ≡ round) }
         ensures since { (since : ADuration) → self.old.blocked_since ≡ Some since → IsErr result → self.new.blocked_since ≡ Some since }
     {
         if self.write_left == 0 {
@@ -148,6 +161,7 @@ impl Stream {
             Ok(count) => {
                 self.write_left -= count;
                 self.blocked_since = None;
+                self.used = round;
                 Ok(count)
             }
             Err(error) => {
@@ -167,11 +181,13 @@ impl Stream {
         }
     }
 
-    /// Breaks the connection, so that the next write fails.
+    /// Breaks the connection, so that the next write fails, and a read comes to the end.
     pub(crate) fn break_off(&mut self)
-        ensures { self.new.writable ≡ true }
+        ensures { self.new ≡ record self.old { writable = true; readable = true; leaving = true } }
     {
         let _fault = self.socket.shutdown(Shutdown::Both);
         self.writable = true;
+        self.readable = true;
+        self.leaving = true;
     }
 }
