@@ -3,7 +3,7 @@
 usage: python3 -m checks PROGRAM hostile [ATTACK..]     all attacks if none is named
 
 Without any right: greedy flood silent stalled idle spin line readers trees. With the right to read: list selected selector window. To
-create roles: memory missing rules bound_again. To create cluster roles: labels. To create reviews: groups repeats. To write
+create roles: memory missing rules bound_again. To create cluster roles: labels. To create reviews: groups many repeats. To write
 bindings: subjects.
 Each attack starts a server of its own on free ports, is bounded in count and time, and gives figures: what, how much, and at most how much.
 """
@@ -19,7 +19,7 @@ from concurrent.futures import ThreadPoolExecutor
 
 from checks.harness import RBAC, bound, compact, cost, judged, rule, thing
 from tools import server as ports
-from tools.server import Server, ask, connect, free, request
+from tools.server import Server, ask, connect, free, request, whole_answer
 
 MAPS, PODS, OTHERS = (f"/api/v1/namespaces/{it}" for it in ("default/configmaps", "default/pods", "other/configmaps"))
 REVIEWS, SELF_REVIEWS = (f"/apis/authorization.k8s.io/v1/{it}" for it in ("subjectaccessreviews", "selfsubjectaccessreviews"))
@@ -36,6 +36,7 @@ LABELS, REQUIREMENTS, PATCHES = 2_000, 5_000, 200
 GROUPS, REPEATS, BINDINGS = 16_000, 1_000, 2_000
 STARVED_CLIENTS, STARVED_SECONDS, LONG = 50, 20, 320
 IDLE_CLIENTS, LET_IN, LISTED, WIDE, CHECKED, LABELLED = 320, 100, 100_000, 56, 1_000, 5_000
+MANY, MANY_SECONDS, JUNK = 50, 15, [{"": 0}] * (1_000_000 // 7)
 QUIET, REMOVED = 100, 1_024
 RULES = 300
 SELECTED, SUBJECTS = 5_000, 32_000
@@ -338,6 +339,23 @@ def is_served(seconds=2):
         return is_answered(client, seconds)
 
 
+def many(program):
+    """Reviews of a megabyte by many clients of one user at once, beside root's gets."""
+    objects = grant("ClusterRole", "create", "selfsubjectaccessreviews", "authorization.k8s.io")
+    review = {"spec": {"resourceAttributes": {"verb": "get"}}, "x": JUNK}
+
+    def attack(client):
+        client.settimeout(4 * MANY_SECONDS)
+        client.sendall(request("POST", SELF_REVIEWS, compact(review)))
+        return whole_answer(client).startswith(b"HTTP/1.1 201 ")
+
+    with Server(program, objects=objects) as server, ThreadPoolExecutor(MANY) as pool:
+        alone = 1000 * cost(server, connect(ports.ROOT), "POST", SELF_REVIEWS, review)
+        answered = pool.map(attack, [connect(ports.ANN) for _client in range(MANY)])
+        told, left = waits(MANY_SECONDS), MANY - sum(answered)
+    return ("root's get, ms at the most", max(told), 500), ("in the median", statistics.median(told), None), ("ms of processor time of one review", alone, None), (f"of {MANY} reviews not answered", left, 0)
+
+
 def readers(program):
     """Clients of the port for questions that ask nothing, as many as it has readers."""
     with answering(program):
@@ -351,14 +369,13 @@ def readers(program):
 
 def trees(program):
     """Reviews with a megabyte of small objects, and of labels that are checked one by one; a small patch of as much that is stored."""
-    junk = [{"": 0}] * (1_000_000 // 7)
     labels = {f"{number:06}": "" for number in range(1_000_000 // 12)}
     review = {"spec": {"resourceAttributes": {"verb": "get"}}}
     with Server(program) as server:
         root = connect(ports.ROOT)
-        figures = [(what, cost(server, root, "POST", SELF_REVIEWS, review | more), 0.5) for what, more in (("seconds of processor time", {"x": junk}), ("of labels", {"metadata": {"labels": labels}}))]
+        figures = [(what, cost(server, root, "POST", SELF_REVIEWS, review | more), 0.5) for what, more in (("seconds of processor time", {"x": JUNK}), ("of labels", {"metadata": {"labels": labels}}))]
         for what, place in (("of a patch", MAPS), ("of a patch of a Pod, whose status is kept", PODS)):
-            cost(server, root, "POST", place, {"metadata": {"name": "a"}, "x": junk})
+            cost(server, root, "POST", place, {"metadata": {"name": "a"}, "x": JUNK})
             figures.append((what, cost(server, root, "PATCH", f"{place}/a", {"data": {"k": "1"}}), 0.5))
     return figures
 
@@ -434,7 +451,7 @@ def window(program):
     return ("bytes shown to a watch that it does not concern", len(quiet_shown), 0), ("events lost of another watch", 1 - events, 0)
 
 
-ATTACKS = {it.__name__: it for it in (greedy, flood, silent, stalled, idle, spin, line, readers, trees, selected, selector, window, memory, missing, rules, bound_again, labels, groups, repeats, subjects)}
+ATTACKS = {it.__name__: it for it in (greedy, flood, silent, stalled, idle, many, spin, line, readers, trees, selected, selector, window, memory, missing, rules, bound_again, labels, groups, repeats, subjects)}
 ATTACKS["list"] = long_list
 
 

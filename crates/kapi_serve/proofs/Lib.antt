@@ -14,5 +14,4 @@ pub mod Listening
 pub mod Connections
 pub mod Standing
 pub mod Tending
-pub mod Idle
 pub mod Picking

@@ -9,3 +9,4 @@ pub mod Rests
 pub mod Private
 pub mod Listening
 pub mod Places
+pub mod Rounds

@@ -1,13 +1,14 @@
-ghost use Rattle.std.specs.Prelude.{◌≡◌, ◌<◌, ◌≤◌, ◌+◌, ◌-◌, ℕ, All, IfOk, IfSome, None, Some, true, false, is_some, length, min, vec_len};
+ghost use Rattle.std.specs.Prelude.{◌≡◌, ◌<◌, ◌≤◌, ◌+◌, ◌-◌, ◌%◌, ℕ, All, IfOk, IfSome, None, Some, true, false, get_or, is_some, length, vec_len};
 ghost use Rattle.std.specs.List.{HoldsAt, list_any};
 ghost use Rattle.kapi_serve.specs.Places.{IsLetIn, MakesRoom, count_by, is_leaving};
 ghost use Rattle.kapi_serve.specs.Private.Ready.{has_turn_next};
 ghost use Rattle.kapi_serve.specs.Private.Turns.{may_be_read};
+ghost use Rattle.kapi_serve.specs.Rounds.{AreIdle, IsIdle, IsNextTurn, IsOf};
 ghost use Rattle.kapi_serve.specs.declared.port.PortEvent.{PortEvent as AnEvent};
 ghost use Rattle.kapi_serve.specs.declared.port.PortEvent.TheVariants as event;
 ghost use Rattle.kapi_model.specs.declared.identity.Identity.{Identity as AnIdentity};
 
-use crate::places::{count, displaced, is_some_leaving, taken};
+use crate::places::{count, displaced, is_some_leaving, next_turn, taken};
 use crate::port::PortEvent;
 use crate::stream::Stream;
 use kapi_core::OPEN_CONNECTIONS;
@@ -20,21 +21,19 @@ use std::time::Duration;
 /// The largest number of open sockets of clients.
 const MOST_OPEN: usize = 320;
 
-/// The streams of clients by slot, and which of them are to have a turn. A round goes over the slots between the first
-/// and the last that an event was noted of, however many are open.
+/// The number of listeners whose turns are remembered apart: as many as there are at most.
+const LISTENERS: usize = 16;
+
+/// The streams of clients by slot. In each round each listener has a turn, which goes to one of its clients.
 #[derive(Drop)]
 pub(crate) struct Slots {
     streams: Vec<Option<Stream>>,
     /// The number of this round.
     round: u64,
-    /// The slots from this one on have not had their turn in this round.
+    /// The listeners from this one on have not had their turn in this round.
     turn: usize,
-    /// The slots from this one on have no event.
-    end: usize,
-    /// A slot that has had its turn may have an event again.
-    left: bool,
-    ghost passed: { left ≡ false → (i : ℕ) → i < turn → i < length streams.items → HoldsAt (λ place. has_turn_next place ≡ false) streams.items i },
-    ghost beyond: { (i : ℕ) → end ≤ i → i < length streams.items → HoldsAt (λ place. has_turn_next place ≡ false) streams.items i },
+    /// The slot of each listener from which on its next turn is looked for.
+    next: [usize; LISTENERS],
 }
 
 impl Slots {
@@ -43,8 +42,7 @@ impl Slots {
             streams: Vec::new(alloc),
             round: 0,
             turn: 0,
-            end: 0,
-            left: false,
+            next: [0; LISTENERS],
         }
     }
 
@@ -85,23 +83,17 @@ impl Slots {
         }
     }
 
-    /// Begins a round: each slot that has an event is yet to have its turn.
+    /// Begins a round: each listener is yet to have its turn.
     pub(crate) fn begin(&mut self)
-        ensures { self.new.left ≡ false }
+        ensures { self.new.turn ≡ 0 }
     {
         self.round = self.round.saturating_add(1);
-        if self.left || self.turn < self.end {
-            self.turn = 0;
-            self.left = false;
-        } else {
-            self.turn = self.streams.len();
-            self.end = 0;
-        }
+        self.turn = 0;
     }
 
     /// Notes the readiness that an event of a slot reports.
     pub(crate) fn note(&mut self, slot: usize, event: &Event)
-        ensures left { self.new.left ≡ self.old.left }
+        ensures turn { self.new.turn ≡ self.old.turn }
         ensures noted { slot < vec_len self.old.streams → may_be_read event.now ≡ true
             → HoldsAt (λ place. is_some place ≡ true → HoldsAt (λ place. has_turn_next place ≡ true) self.new.streams.items slot) self.old.streams.items slot }
     {
@@ -110,18 +102,17 @@ impl Slots {
         }
         if let Some(stream) = &mut self.streams[slot] {
             stream.note(event);
-            self.turn = self.turn.min(slot);
-            self.end = self.end.max(slot + 1);
         }
     }
 
-    /// The next turn of this round.
-    pub(crate) fn take_turn(&mut self) -> Option<PortEvent>
+    /// The next turn of this round: of the first listener from `turn` on that has a client with an event.
+    pub(crate) fn take_turn(&mut self, listeners: usize) -> Option<PortEvent>
         ensures turn { IfSome result (λ event. self.old.turn < self.new.turn) }
-        ensures done { result ≡ None → min self.new.end (vec_len self.new.streams) ≤ self.new.turn }
+        ensures passed { IfSome result (λ event. AreIdle self.old.turn (self.new.turn - 1) self.old.streams.items) }
+        ensures done { result ≡ None → AreIdle self.old.turn listeners self.old.streams.items }
         ensures open { (slot : ℕ) (identity : AnIdentity) → result ≡ Some (event.Opened slot identity) → ⊥ }
     {
-        while self.turn < self.end.min(self.streams.len()) {
+        while self.turn < listeners {
             let taken = self.pass_turn();
             if taken.is_some() {
                 return taken;
@@ -130,36 +121,28 @@ impl Slots {
         None
     }
 
-    /// The event of the slot whose turn it is, if it has one. The turn passes to the next slot.
+    /// The event of the next client of the listener whose turn it is, if one has an event. The turn passes to the next
+    /// listener.
     fn pass_turn(&mut self) -> Option<PortEvent>
-        requires due { self.old.turn < self.old.end }
-        requires slot { self.old.turn < vec_len self.old.streams }
+        requires { self.old.turn < 18446744073709551615 }
         ensures turn { self.new.turn ≡ self.old.turn + 1 }
-        ensures same { (self.new.end ≡ self.old.end) × (vec_len self.new.streams ≡ vec_len self.old.streams) }
+        ensures next { IfSome result (λ event. (slot : ℕ) × IsOf slot event × IsNextTurn self.old.turn self.old.streams.items (get_or self.old.next (self.old.turn % 16) 0) slot × (get_or self.new.next (self.old.turn % 16) 0 ≡ slot + 1)) }
+        ensures idle { result ≡ None → IsIdle self.old.turn self.old.streams.items × (self.new.streams ≡ self.old.streams) }
         ensures open { (slot : ℕ) (identity : AnIdentity) → result ≡ Some (event.Opened slot identity) → ⊥ }
     {
-        let slot = self.turn;
-        let taken = turn_at(&mut self.streams[slot], slot);
-        if is_ready_at(&self.streams[slot]) {
-            self.left = true;
-        }
-        self.turn = slot + 1;
-        taken
+        let listener = self.turn;
+        self.turn += 1;
+        let from = self.next[listener % LISTENERS];
+        let slot = next_turn(self.streams.as_slice(), listener, from)?;
+        self.next[listener % LISTENERS] = slot + 1;
+        turn_at(&mut self.streams[slot], slot)
     }
 
     /// Whether a stream has an event for its next turn.
     pub(crate) fn is_some_ready(&self) -> bool
         ensures { result ≡ list_any has_turn_next self.now.streams.items }
     {
-        if self.left {
-            return is_some_turn_next(self.streams.as_slice());
-        }
-        for slot in self.turn..self.end.min(self.streams.len()) {
-            if is_ready_at(&self.streams[slot]) {
-                return true;
-            }
-        }
-        false
+        is_some_turn_next(self.streams.as_slice())
     }
 
     /// The number of clients that came by a listener.
@@ -197,8 +180,6 @@ impl Slots {
         ensures len { vec_len self.new.streams ≡ vec_len self.old.streams }
         ensures leaving { HoldsAt (λ place. is_some place ≡ true → HoldsAt (λ its. is_leaving its ≡ true) self.new.streams.items slot) self.old.streams.items slot }
     {
-        self.left = true;
-        self.end = self.streams.len();
         if let Some(stream) = &mut self.streams[slot] {
             stream.break_off();
         }
@@ -206,8 +187,6 @@ impl Slots {
 
     /// Breaks the first of the streams that have taken nothing for too long.
     pub(crate) fn break_stuck(&mut self, now: Duration) {
-        self.left = true;
-        self.end = self.streams.len();
         break_first(self.streams.as_mut_slice(), now);
     }
 
@@ -219,12 +198,7 @@ impl Slots {
         if slot >= self.streams.len() {
             return None;
         }
-        let read = read_at(&mut self.streams[slot], buffer, self.round);
-        if is_ready_at(&self.streams[slot]) {
-            self.left = true;
-            self.end = self.end.max(slot + 1);
-        }
-        read
+        read_at(&mut self.streams[slot], buffer, self.round)
     }
 
     /// Whether a slot has no stream, or one with no bytes that are yet to be read.
@@ -247,12 +221,7 @@ impl Slots {
         if slot >= self.streams.len() {
             return None;
         }
-        let written = write_at(&mut self.streams[slot], bytes, self.round, now);
-        if is_ready_at(&self.streams[slot]) {
-            self.left = true;
-            self.end = self.end.max(slot + 1);
-        }
-        written
+        write_at(&mut self.streams[slot], bytes, self.round, now)
     }
 }
 
@@ -292,7 +261,8 @@ fn write_at(
 
 /// The event of the stream on this slot, if there is one and it is ready.
 fn turn_at(place: &mut Option<Stream>, slot: usize) -> Option<PortEvent>
-    ensures none { result ≡ None → has_turn_next place.new ≡ false }
+    ensures on { IfSome result (λ event. IsOf slot event) }
+    ensures some { has_turn_next place.old ≡ true → is_some result ≡ true }
     ensures open { (slot : ℕ) (identity : AnIdentity) → result ≡ Some (event.Opened slot identity) → ⊥ }
 {
     match place {
@@ -302,7 +272,7 @@ fn turn_at(place: &mut Option<Stream>, slot: usize) -> Option<PortEvent>
 }
 
 /// Whether there is a stream, which has an event for its next turn.
-fn is_ready_at(place: &Option<Stream>) -> bool
+pub(crate) fn is_ready_at(place: &Option<Stream>) -> bool
     ensures { result ≡ has_turn_next place.now }
 {
     match place {

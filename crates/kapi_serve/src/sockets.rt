@@ -35,7 +35,8 @@ const MOST_REFUSED: u32 = 10;
 /// The number of clients that are accepted before the open ones have their turn again.
 const MOST_ACCEPTED: usize = 16;
 
-/// Ports over sockets of this machine. In each round every ready slot has one turn, then a few clients are accepted.
+/// Ports over sockets of this machine. In each round every listener has one turn, which goes to one of its ready
+/// slots, then a few clients are accepted.
 #[derive(Drop)]
 pub struct Sockets<C: Clock + Drop> {
     alloc: Global,
@@ -155,7 +156,7 @@ impl<C: Clock + Drop> Sockets<C> {
         ensures doors { doors self.new.listeners.items ≡ doors self.old.listeners.items }
         ensures identity { CameByDoor self.old.listeners.items result }
     {
-        match self.slots.take_turn() {
+        match self.slots.take_turn(self.listeners.len()) {
             Some(event) => Some(event),
             None => self.accept(),
         }
@@ -171,7 +172,7 @@ impl<C: Clock + Drop> Sockets<C> {
     /// Begins a round, after a wait of at most `most` milliseconds. None if the wait fails.
     fn begin_round(&mut self, most: u64) -> Option<()>
         ensures doors { doors self.new.listeners.items ≡ doors self.old.listeners.items }
-        ensures turns { IfSome result (λ _. self.new.slots.left ≡ false) }
+        ensures turns { IfSome result (λ _. self.new.slots.turn ≡ 0) }
     {
         self.poll
             .poll(&mut self.events, Some(Duration::from_millis(most)))
@@ -259,7 +260,7 @@ fn is_some_waiting(listeners: &[Listener]) -> bool
 /// Notes the readiness that events report.
 fn note_all(listeners: &mut Vec<Listener>, slots: &mut Slots, events: &Events)
     ensures doors { doors listeners.new.items ≡ doors listeners.old.items }
-    ensures left { slots.new.left ≡ slots.old.left }
+    ensures turn { slots.new.turn ≡ slots.old.turn }
 {
     for event in events {
         note(listeners, slots, event);
@@ -269,7 +270,7 @@ fn note_all(listeners: &mut Vec<Listener>, slots: &mut Slots, events: &Events)
 /// Notes the readiness that an event reports.
 fn note(listeners: &mut Vec<Listener>, slots: &mut Slots, event: &Event)
     ensures doors { doors listeners.new.items ≡ doors listeners.old.items }
-    ensures left { slots.new.left ≡ slots.old.left }
+    ensures turn { slots.new.turn ≡ slots.old.turn }
     ensures waits { (event_token event.now).0 < vec_len listeners.old → HoldsAt (λ l. l.waiting ≡ true) listeners.new.items (event_token event.now).0 }
 {
     let token = event.token().0;

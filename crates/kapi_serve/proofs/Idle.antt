@@ -1,9 +1,0 @@
--- Slots without an event.
-use Rattle.std.proofs.Common.{◌≡◌, ℕ, List, Option, false}
-use Rattle.std.specs.List.{HoldsAt}
-use Rattle.kapi_serve.specs.Private.Ready.{has_turn_next}
-use Rattle.kapi_serve.specs.declared.stream.Stream.{Stream}
-
--- the slot has no event
-abbrev pub IsIdleAt : List (Option Stream) → ℕ → Type 0
-IsIdleAt places i = HoldsAt (λ place. has_turn_next place ≡ false) places i
