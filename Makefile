@@ -30,7 +30,7 @@ quick: profile ## change: transcripts and quick checks in 4 to 7 minutes; no pro
 	@sh tools/unproved.sh
 	@$(PYTHON) -m checks $(TRIED)
 
-test: ## change: the gate; from nothing 87 minutes on 2 processors, fewer on 4
+test: ## change: the gate; from nothing some 90 minutes on 2 or 4 processors
 	$(NEEDS_RT)
 	@rm -rf crates/*/out/rlib out/library
 	@$(PYTHON) -m tools.gate

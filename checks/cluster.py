@@ -343,16 +343,16 @@ def large_roles(run):
     """Roles that are too large, or have long names, are left out, and Kapi goes on; one that grows gives nothing until it is small again"""
     kapi, large = run.mirror.kapi(), role("grows", "pods")
     run.write("POST", NAMED + "/roles", large)
-    run.write("POST", NAMED + "/rolebindings", binding("grows", "grows", "dan"))
-    run.until(200, "dan")
+    run.write("POST", NAMED + "/rolebindings", binding("grows", "grows", "ann"))
+    run.until(200, "ann")
     large = {**large, "rules": large["rules"] + [{"apiGroups": [""], "resources": ["pods"], "verbs": ["get"], "resourceNames": [f"name-{it:08}" for it in range(85_000)]}]}
     long = {**role("x" * 16_300, "pods"), "metadata": {"name": "x" * 16_300}}
     for _time in range(3):
         run.write("PUT", NAMED + "/roles/grows", large)
         run.write("POST", NAMED + "/roles", long)
-        run.until(403, "dan")
+        run.until(403, "ann")
         run.write("PUT", NAMED + "/roles/grows", role("grows", "pods"))
-        run.until(200, "dan")
+        run.until(200, "ann")
         run.write("DELETE", NAMED + "/roles/" + "x" * 16_300)
     run.write("DELETE", NAMED + "/rolebindings/grows")
     run.write("DELETE", NAMED + "/roles/grows")

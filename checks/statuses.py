@@ -257,7 +257,7 @@ WIDE = lines(thing("ClusterRole", "r", rules=[rule("get", "pods")]), thing("Clus
 # Members that an API server drops: the first rule gives all Secrets.
 MISSPELT = lines(thing("ClusterRole", "c", aggregationRule={"clusterRoleSelectors": [{"matchLabel": {}}]}, rule=[]), thing("Role", "r", "shop", rules=[{**rule("get", "secrets"), "resourceName": ["a"]}]),
                  thing("RoleBinding", "b", "shop", **bound("Role r", "User eve"), subject=[]))
-UNREAD = "\n".join(f"{it}: Kubernetes has no such member, and it is not read" for it in (
+UNREAD = "misspelt: roles: 2, bindings: 1\n" * 2 + "\n".join(f"{it}: Kubernetes has no such member, and it is not read" for it in (
     "ClusterRole c: matchLabel in clusterRoleSelectors", "ClusterRole c: rule in ClusterRole", "Role shop/r: resourceName in rules", "RoleBinding shop/b: subject in RoleBinding"))
 # Names that would be escapes of a terminal, HTML and commands of a CI system.
 NAMES = lines(thing("ClusterRole", "r", rules=[rule("::get", "pods")]), thing("ClusterRoleBinding", "b", **bound("ClusterRole r", "User eve")),

@@ -59,7 +59,7 @@ def say(text):
 def words_of(fault):
     """A fault in one line."""
     is_answer = isinstance(fault, client.ApiException)
-    words = f"{fault.status} {fault.reason} {(fault.body or b'').decode()}" if is_answer else f"{type(fault).__name__} {fault}".removeprefix("Fault ")
+    words = f"{fault.status} {fault.reason} {(fault.body or b'').decode()}" if is_answer else f"{type(fault).__name__} {fault}".removeprefix("Fault ").removeprefix("Refusal ")
     return " ".join(re.sub(" object at 0x[0-9a-f]+", "", words).split())
 
 
