@@ -361,14 +361,18 @@ def large_roles(run):
 
 
 def other_hand(run):
-    """What another local user writes into Kapi is gone after a minute"""
+    """What another local user writes into Kapi is gone after a minute, and so is the same if it is written again at once"""
     if run.changes < MANY:
         return "left out of a short run"
     more = {"metadata": {"name": "more"}, "roleRef": {"apiGroup": GROUP, "kind": "ClusterRole", "name": "cluster-admin"}, "subjects": [{"kind": "User", "apiGroup": GROUP, "name": "ida"}]}
-    assert Client(ROOT).ask("POST", RBAC + "/clusterrolebindings", more)[0] == 201
-    run.until(200, "ida")
-    run.until_said("Kapi has another ClusterRoleBinding more than the cluster", seconds=2 * SECONDS)
-    return f"{run.until(403, 'ida')} after it was seen"
+    waited = []
+    for _time in range(2):
+        behind = len(run.mirror.lines)
+        assert Client(ROOT).ask("POST", RBAC + "/clusterrolebindings", more)[0] == 201
+        run.until(200, "ida")
+        run.until_said("Kapi has another ClusterRoleBinding more than the cluster", behind, 2 * SECONDS)
+        waited.append(run.until(403, "ida"))
+    return f"{', '.join(waited)} after it was seen"
 
 
 def many_changes(run):

@@ -174,7 +174,7 @@ class Kapi:
     def __init__(self, program, root, webhook):
         self.program, self.root, self.webhook = program, root, webhook
         self.user = f"kapi:{secrets.token_hex(16)}"
-        self.wanted, self.left_out, self.differs, self.is_filled, self.process, self.lock = {}, set(), {}, False, None, threading.RLock()
+        self.wanted, self.left_out, self.is_filled, self.process, self.lock = {}, set(), False, None, threading.RLock()
         self.changed, self.starts = 0, 0
 
     def fill(self, objects):
@@ -327,21 +327,26 @@ class Kapi:
             self.start()
 
     def compare(self):
-        """Starts it anew if its lists are others than the cluster's; not twice for the same difference."""
+        """Starts it anew if its lists are others than the cluster's, each time: whoever writes into it may do so again."""
         with self.lock:
             at, wanted = (self.changed, self.starts), {key: held(it) for key, it in self.wanted.items() if key not in self.left_out}
+        try:
+            found = self.shown()
+        except FAULTS as fault:
+            return say(f"Kapi's lists cannot be compared: {words_of(fault)}")
+        differ = [key for key in {**found, **wanted} if found.get(key) != wanted.get(key)]
+        with self.lock:
+            if differ and at == (self.changed, self.starts):
+                say(f"Kapi has another {', '.join(' '.join(filter(None, it)) for it in differ[:3])} than the cluster; it is started anew")
+                self.start()
+
+    def shown(self):
+        """What it has, asked for beside the changes."""
         found, client = {}, http.client.HTTPConnection("127.0.0.1", self.root, timeout=WATCH_SECONDS)
-        with contextlib.suppress(*FAULTS):
-            for kind in KINDS:
-                client.request("GET", path_of(kind))
-                found.update((key_of(kind, it), held(it)) for it in json.loads(client.getresponse().read())["items"] if it["metadata"]["name"] != self.user)
-            differ = {key: found.get(key) for key in {**found, **wanted} if found.get(key) != wanted.get(key)}
-            with self.lock:
-                if at == (self.changed, self.starts) and differ != self.differs:
-                    self.differs = differ
-                    if differ:
-                        say(f"Kapi has another {', '.join(' '.join(filter(None, it)) for it in list(differ)[:3])} than the cluster; it is started anew")
-                        self.start()
+        for kind in KINDS:
+            client.request("GET", path_of(kind))
+            found.update((key_of(kind, it), held(it)) for it in json.loads(client.getresponse().read())["items"] if it["metadata"]["name"] != self.user)
+        return found
 
 
 def held(item):
