@@ -1,6 +1,6 @@
-"""Tries a dozen of the edits in crates/*/edits, small bugs that the prover must refuse: ten of the decisions and COUNT others.
+"""Tries edits in crates/*/edits, small bugs that the prover must refuse. Each gate tries ten of the decisions, `always`, and draws two others.
 
-usage: python3 -m checks PROGRAM edits [COUNT [SUM]]     drawn by the sum of the sources, so that a run can be repeated; or CRATE/NAME,CRATE/NAME.. for COUNT
+usage: python3 -m checks PROGRAM edits [COUNT [SUM]]     COUNT others are drawn by the sum of the sources, so that a run can be repeated; `always`, or CRATE/NAME,CRATE/NAME.., for COUNT: the ten, or these
 
 Needs rt, and the libraries that `make test` left in crates/*/out/rlib. The edited function is checked with what it calls; if that passes, its
 module is, and then the whole crate.
@@ -21,9 +21,9 @@ ALWAYS = [
     "kapi_answer/every_request_is_answered_alike",
     "kapi_answer/a_request_with_many_segments_needs_no_rule",
     "kapi_index/a_deleted_binding_stays_in_the_index",
-    "kapi_guard/a_binding_to_a_missing_role_passes",
-    "kapi_guard/an_update_looks_only_at_added_rules",
-    "kapi_guard/the_groups_are_not_checked",
+    "kapi_escalation/a_binding_to_a_missing_role_passes",
+    "kapi_escalation/an_update_looks_only_at_added_rules",
+    "kapi_escalation/the_groups_are_not_checked",
     "kapi_aggregation/rules_are_only_added",
     "kapi_reviews/a_resource_with_a_slash_is_asked_about_beside_a_subresource",
     "kapi_rules/a_name_covers_all_names",
@@ -117,12 +117,12 @@ def main(_program, count="2", seed=""):
     edits = sorted((ROOT / "crates").glob("*/edits/*.edit"))
     if count.isdigit():
         seed = seed or subprocess.run(["sh", "tools/sources.sh"], cwd=ROOT, stdout=subprocess.PIPE, text=True, check=True).stdout.split()[0]
-        always = [named(it) for it in ALWAYS]
-        edits = always + random.Random(seed).sample([it for it in edits if it not in always], int(count))
-        print(f"{len(always)} edits, and {count} drawn by {seed}")
+        others = [it for it in edits if f"{it.parts[-3]}/{it.stem}" not in ALWAYS]
+        edits = random.Random(seed).sample(others, int(count))
+        print(f"{count} edits drawn by {seed}")
     else:
-        edits = [named(it) for it in count.split(",")]
-    with ThreadPoolExecutor(min(4, os.cpu_count())) as pool:
+        edits = [named(it) for it in (ALWAYS if count == "always" else count.split(","))]
+    with ThreadPoolExecutor(max(1, len(os.sched_getaffinity(0)) - 1)) as pool:
         results = list(pool.map(tried, edits))
     for edit, (is_refused, said) in zip(edits, results):
         print(f"{edit.parts[-3]}/{edit.stem}: {'refused' if is_refused else 'NOT REFUSED'}: {said}")
