@@ -20,24 +20,24 @@ NAMES = ["admin", "edit", "view", "system:aggregate-to-admin", "system:aggregate
 HEAD = """//! Kubernetes' user-facing cluster roles ('Using RBAC Authorization', 'User-facing roles'), as an API server of version {version}
 //! writes them. tools/default_roles.py makes this file.
 ghost use Rattle.std.specs.Prelude.{{◌≡◌, map}};
-ghost use Rattle.kapi_manifests.specs.Standing as standing;
+ghost use Rattle.kapi_manifests.specs.DefaultObjects as default_objects;
 
-use crate::standing::Standing;
+use crate::default_objects::DefaultObject;
 """
 ROLE = """
 const {const}: &str = r#"{text}"#;
 """
 LIST = """
 /// The roles `admin`, `edit` and `view`, and those that they are put together of.
-#[tactic(auto, unfolding(crate::specs::Standing::default_roles))]
-pub fn default_roles() -> [Standing; {count}]
-    ensures {{ map standing.object_told result ≡ standing.default_roles }}
+#[tactic(auto, unfolding(crate::specs::DefaultObjects::default_roles))]
+pub fn default_roles() -> [DefaultObject; {count}]
+    ensures {{ map default_objects.model_of_object result ≡ default_objects.default_roles }}
 {{
     [
 {rows}    ]
 }}
 """
-ROW = """        Standing {{
+ROW = """        DefaultObject {{
             kind: "ClusterRole",
             name: "{name}",
             text: {const},

@@ -14,7 +14,7 @@ CRATES = ROOT / "crates"
 CLAIMS = {
     "nobody-gains": ["core/Gains.NobodyGains"],
     "exact-answers": ["core/Machine.step", "core/Opening.opening", "http/Requests.AreCut", "serve/server.rt:serve_loop"],
-    "checked": ["guard/check.rt:check_write"],
+    "checked": ["escalation/check.rt:check_write"],
     "watches": ["core/laws.rt:what_is_sent_of_a_watch_makes_its_list"],
     "confidential": [f"confidential/laws.rt:{it}" for it in ("reads_show_only_what_may_be_read", "writes_show_only_what_may_be_written", "events_show_only_what_is_watched")],
     "compare": ["access/answer.rt:answer_compare", "access/laws.rt:every_gain_is_reported", "access/laws.rt:each_line_is_a_gain"],

@@ -10,11 +10,11 @@ BLUE, RED, BLACK = "#4a6a8a", "#aa3333", "#16293d"
 STEPS = [
     ("Cut the next whole request from the bytes", "kapi_http", "400, 405, 413, 417, 431, 501, 505"),
     ("Read what it asks for: verb, resource, namespace, name", "kapi_request_info", "400"),
-    ("May the caller act as whom the request names?", "kapi_guard", "403, each missing permission"),
+    ("May the caller act as whom the request names?", "kapi_escalation", "403, each missing permission"),
     ("Does a rule that is bound allow it?", "kapi_policy, kapi_index", "403, the missing permission"),
     ("Find the resource and action; read the query", "kapi_answer", "400, 404, 405, 410, 415, 504"),
     ("Check the body, existence, version, validity", "kapi_object, kapi_answer", "400, 404, 409, 422, each fault"),
-    ("Does the caller hold what a role or binding gives?", "kapi_guard, kapi_missing", "403, each missing permission"),
+    ("Does the caller hold what a role or binding gives?", "kapi_escalation, kapi_missing", "403, each missing permission"),
     ("Prepare the write, with all its memory", "kapi_store", "503, where revisions are used up"),
     ("Write the reply, and then commit", "kapi_reply, kapi_core", ""),
 ]

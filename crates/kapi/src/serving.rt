@@ -7,12 +7,12 @@ use crate::beginning::{BeginError, Objects, begin, first_of};
 use crate::bounded_lines::BoundedLines;
 use kapi_audit::answer_run;
 use kapi_command_line::{Listen, ServeOptions};
-use kapi_desk::Seat;
 use kapi_files::{
     Ending, ReadPolicy, Reason, read_file, read_kinds, read_served, tell_reason, tell_unloaded,
 };
 use kapi_loading::{StartError, Started, object_reason};
 use kapi_model::ResourceRow;
+use kapi_publishing::Seat;
 use kapi_serve::{Sockets, serve_loop};
 use kapi_text::{Sequence, TryCopy};
 use std::alloc::Global;

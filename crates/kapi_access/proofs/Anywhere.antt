@@ -13,7 +13,7 @@ use Rattle.kapi_policy.proofs.Decisions.{allowed_where_held}
 use Rattle.kapi_policy.specs.All.{all_bindings}
 use Rattle.kapi_policy.specs.Decided.{Binding, held}
 use Rattle.kapi_policy.specs.Objects.{PolicyObjects}
-use Rattle.kapi_gains.specs.Access.{may}
+use Rattle.kapi_escalation_laws.specs.Access.{may}
 use Rattle.kapi_access.specs.declared.grantee.Grantee.{Grantee}
 use Rattle.kapi_access.specs.declared.first_ways.Listed.TheVariants as listed
 use Rattle.kapi_access.specs.Grantees.{grantees, matches, role_of}

@@ -1,7 +1,7 @@
 -- The answers to lines, one behind the other.
 use Rattle.std.proofs.Common.{◌≡◌, ℕ, suc, ◌+◌, ◌<◌, ◌≤◌, List, [], ◌∷◌, ◌++◌, Option, None, Some, Result, Ok, Err, map, sym, ap, ◌∙◌, subst, append_assoc, append-nil, add-one, drop, drop-cons, get_or, length, refl}
 use Rattle.std.proofs.lemmas.List.{drop_all}
-use Rattle.kapi_text.specs.Gives.{Fails, ◌>>=◌}
+use Rattle.kapi_text.specs.ResultIs.{Fails, ◌>>=◌}
 use Rattle.kapi_lines.specs.Lines.{NumberedLine, line_of}
 use Rattle.kapi_lines.specs.declared.line.Line.{Line}
 use Rattle.kapi_policy.specs.Objects.{PolicyObjects}

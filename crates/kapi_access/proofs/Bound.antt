@@ -21,8 +21,8 @@ use Rattle.kapi_policy.specs.Decided.{Binding, bindings_in, bindings_of, cluster
 use Rattle.kapi_policy.specs.Objects.{PolicyObjects}
 use Rattle.kapi_policy.specs.declared.change.NamespacedName.{NamespacedName}
 use Rattle.kapi_aggregation.proofs.Lists.{has_kept, has_mapped, kept_of, mapped_of}
-use Rattle.kapi_gains.proofs.Elements.{has_either, has_left, has_right}
-use Rattle.kapi_gains.specs.Access.{may}
+use Rattle.kapi_escalation_laws.proofs.Elements.{has_either, has_left, has_right}
+use Rattle.kapi_escalation_laws.specs.Access.{may}
 use Rattle.kapi_aggregation.specs.Members.{Has}
 use Rattle.kapi_access.specs.declared.grantee.Grantee.{Grantee}
 use Rattle.kapi_access.specs.declared.grantee.Grantee.TheVariants as grantee

@@ -14,7 +14,7 @@ use Rattle.kapi_rules.specs.Rules.{allows}
 use Rattle.kapi_rules.specs.declared.point.Point.{Point}
 use Rattle.kapi_policy.specs.Decided.{Binding}
 use Rattle.kapi_aggregation.proofs.Lists.{some_at}
-use Rattle.kapi_gains.proofs.Elements.{passing}
+use Rattle.kapi_escalation_laws.proofs.Elements.{passing}
 use Rattle.kapi_object.proofs.Clean.{none_if}
 use Rattle.kapi_access.specs.Answers.{grave_first}
 use Rattle.kapi_access.specs.Gained.{Gained, GainedAtoms, GainedRule, IsReported, IsReportedByRule, by_rule, is_alike, rules_gained, with_gain}

@@ -12,7 +12,7 @@ use Rattle.kapi_policy.specs.All.{all_bindings}
 use Rattle.kapi_policy.specs.Decided.{bindings_in}
 use Rattle.kapi_policy.specs.Objects.{PolicyObjects}
 use Rattle.kapi_text.proofs.Booleans.{or_assoc, or_false, turned as turned_word}
-use Rattle.kapi_gains.proofs.Elements.{passing}
+use Rattle.kapi_escalation_laws.proofs.Elements.{passing}
 use Rattle.kapi_aggregation.proofs.Lists.{some_at}
 use Rattle.kapi_access.specs.declared.grantee.Grantee.{Grantee}
 use Rattle.kapi_access.specs.declared.grantee.Grantee.TheVariants as grantee

@@ -5,7 +5,7 @@ use Rattle.serde_json.specs.Written.{has_float, items_have_float}
 use Rattle.kapi_object.proofs.Closed.{rule_tree_holds}
 use Rattle.kapi_object.proofs.NoFloats.{no_floats}
 use Rattle.kapi_access.specs.Rights.{given_tree, right_tree}
-use Rattle.kapi_access.specs.declared.given.GivenBy.{GivenBy}
+use Rattle.kapi_access.specs.declared.rights_of.GivenBy.{GivenBy}
 use Rattle.kapi_access.specs.declared.scoped.ScopedRule.{ScopedRule}
 
 givers_have_no_float : (by : List GivenBy) → items_have_float (items_of (map given_tree by)) ≡ false

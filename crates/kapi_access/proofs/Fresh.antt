@@ -12,7 +12,7 @@ use Rattle.kapi_rules.proofs.Covers.{same}
 use Rattle.kapi_policy.specs.All.{all_bindings}
 use Rattle.kapi_policy.specs.Decided.{Binding}
 use Rattle.kapi_policy.specs.Objects.{PolicyObjects}
-use Rattle.kapi_gains.proofs.Elements.{part_of, passing}
+use Rattle.kapi_escalation_laws.proofs.Elements.{part_of, passing}
 use Rattle.kapi_aggregation.specs.Members.{Has}
 use Rattle.kapi_access.specs.declared.grantee.Grantee.TheVariants as grantee
 use Rattle.kapi_access.specs.Grantees.{grantees, unbound_user, user_in, users_in, whom}

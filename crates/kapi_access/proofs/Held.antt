@@ -15,9 +15,9 @@ use Rattle.kapi_policy.specs.Decided.{Binding, bindings_in, given, held, rules_o
 use Rattle.kapi_policy.specs.Objects.{PolicyObjects}
 use Rattle.kapi_access.proofs.Bound.{bound_by, counted, counts_in}
 use Rattle.kapi_aggregation.proofs.Lists.{some_at}
-use Rattle.kapi_gains.proofs.Elements.{has_part, part_of, passing}
-use Rattle.kapi_gains.proofs.Atoms.{where_bound}
-use Rattle.kapi_gains.specs.Access.{may}
+use Rattle.kapi_escalation_laws.proofs.Elements.{has_part, part_of, passing}
+use Rattle.kapi_escalation_laws.proofs.Atoms.{where_bound}
+use Rattle.kapi_escalation_laws.specs.Access.{may}
 use Rattle.kapi_aggregation.specs.Members.{Has}
 use Rattle.kapi_access.specs.declared.grantee.Grantee.{Grantee}
 use Rattle.kapi_access.specs.Grantees.{grantees, matches, role_of}

@@ -23,7 +23,7 @@ use Rattle.kapi_policy.specs.Objects.{place_cmp}
 use Rattle.kapi_policy.specs.Views.{binding_of}
 use Rattle.kapi_policy.specs.declared.binding.Binding.{Binding as BoundBy}
 use Rattle.kapi_policy.specs.declared.change.NamespacedName.{NamespacedName}
-use Rattle.kapi_gains.proofs.Elements.{has_part, part_of}
+use Rattle.kapi_escalation_laws.proofs.Elements.{has_part, part_of}
 use Rattle.kapi_aggregation.specs.Members.{Has}
 use Rattle.kapi_access.specs.Dangling.{bound_places, covered, covered_by, covers, first_for, is_bound, IsCovered, role_place, same_place, stands_for}
 use Rattle.kapi_access.specs.declared.dangling.Covered.{Covered}

@@ -17,8 +17,8 @@ use Rattle.kapi_rules.specs.declared.atom.Atom.{Atom}
 use Rattle.kapi_rules.specs.declared.point.Point.{Point}
 use Rattle.kapi_rules.specs.declared.point.Point.TheVariants as point
 use Rattle.kapi_access.specs.Together.{are_alike, joined, lists_names, place_of, put_together, same_texts, together, with_rule}
-use Rattle.kapi_access.specs.declared.joining.Part.{Part}
-use Rattle.kapi_access.specs.declared.joining.Part.TheVariants as part
+use Rattle.kapi_access.specs.declared.merge_rules.RuleList.{RuleList}
+use Rattle.kapi_access.specs.declared.merge_rules.RuleList.TheVariants as part
 
 -- ---- rules that are alike
 
@@ -31,14 +31,14 @@ texts_are (x ∷ xs) (y ∷ ys) h =
     ap (λ (z : List ℕ). z ∷ xs) (same x y parts.0) ∙ ap (λ (zs : List (List ℕ)). y ∷ zs) (texts_are xs ys parts.1)
 
 -- the rule with the list that is joined of another
-abbrev pub with_list : Part → PolicyRule → PolicyRule → PolicyRule
+abbrev pub with_list : RuleList → PolicyRule → PolicyRule → PolicyRule
 with_list part.Names a b = record a { resource_names = b.resource_names }
 with_list part.Verbs a b = record a { verbs = b.verbs }
 with_list part.Resources a b = record a { resources = b.resources }
 with_list part.Groups a b = record a { api_groups = b.api_groups }
 with_list part.Urls a b = record a { non_resource_urls = b.non_resource_urls }
 
-pub all_but : (which : Part) (a b : PolicyRule) → are_alike which a b ≡ true → with_list which a b ≡ b
+pub all_but : (which : RuleList) (a b : PolicyRule) → are_alike which a b ≡ true → with_list which a b ≡ b
 all_but part.Names a b h =
     let one = and_parts (same_texts a.verbs b.verbs) _ h in
     let two = and_parts (same_texts a.api_groups b.api_groups) _ one.1 in
@@ -180,7 +180,7 @@ by_urls a more (point.Url p) =
 
 -- ---- rules that are joined
 
-joined_allows : (which : Part) (a b : PolicyRule) (p : Point) → are_alike which a b ≡ true → allows (joined which a b) p ≡ (allows a p || allows b p)
+joined_allows : (which : RuleList) (a b : PolicyRule) (p : Point) → are_alike which a b ≡ true → allows (joined which a b) p ≡ (allows a p || allows b p)
 joined_allows part.Names a b p h =
     let names = both_list_names a b h in
     by_names a b.resource_names p names.0 names.1 ∙ ap (λ (r : PolicyRule). allows a p || allows r p) (all_but part.Names a b h)
@@ -191,7 +191,7 @@ joined_allows part.Urls a b p h = by_urls a b.non_resource_urls p ∙ ap (λ (r 
 
 -- ---- places
 
-found_at : (which : Part) (rules : List PolicyRule) (rule first : PolicyRule) → place_of which rules rule < length rules → first ≡ slice_index_or rules (place_of which rules rule) first
+found_at : (which : RuleList) (rules : List PolicyRule) (rule first : PolicyRule) → place_of which rules rule < length rules → first ≡ slice_index_or rules (place_of which rules rule) first
     → with_rule which rules rule ≡ slice_set rules (place_of which rules rule) (joined which first rule)
 unfolding with_rule
 found_at which [] rule first inside there = absurd (omega (arith, inside))
@@ -205,13 +205,13 @@ found_at which (x ∷ rules) rule first inside there = by_case (are_alike which 
     by_case true inside there more = ap (λ (z : PolicyRule). joined which z rule ∷ rules) (sym there)
     by_case false inside there more = ap (λ (l : List PolicyRule). x ∷ l) (more (omega (arith, inside)) there)
 
-pub joined_at : (which : Part) (rules : List PolicyRule) (rule first new : PolicyRule) (place : ℕ) → new ≡ joined which first rule → place ≡ place_of which rules rule → place < length rules
+pub joined_at : (which : RuleList) (rules : List PolicyRule) (rule first new : PolicyRule) (place : ℕ) → new ≡ joined which first rule → place ≡ place_of which rules rule → place < length rules
     → first ≡ slice_index_or rules place first → slice_set rules place new ≡ with_rule which rules rule
 joined_at which rules rule first new place is at inside there =
     ap (λ (r : PolicyRule). slice_set rules place r) is ∙ ap (λ n. slice_set rules n (joined which first rule)) at
     ∙ sym (found_at which rules rule first (subst (λ n. n < length rules) at inside) (subst (λ n. first ≡ slice_index_or rules n first) at there))
 
-pub added_last : (which : Part) (rules : List PolicyRule) (rule : PolicyRule) → length rules ≤ place_of which rules rule → with_rule which rules rule ≡ rules ++ rule ∷ []
+pub added_last : (which : RuleList) (rules : List PolicyRule) (rule : PolicyRule) → length rules ≤ place_of which rules rule → with_rule which rules rule ≡ rules ++ rule ∷ []
 unfolding with_rule
 added_last which [] rule behind = refl
 added_last which (x ∷ rules) rule behind = by_case (are_alike which x rule) behind (added_last which rules rule)
@@ -230,7 +230,7 @@ across false true false = refl
 across false false true = refl
 across false false false = refl
 
-module _ (which : Part) (p : Point) where
+module _ (which : RuleList) (p : Point) where
   abbrev some_allows : List PolicyRule → Bool
   some_allows rules = list_any (λ rule. allows rule p) rules
 

@@ -15,26 +15,26 @@ use Rattle.kapi_rules.proofs.Covers.{itself, same}
 use Rattle.kapi_access.proofs.Joined.{all_but, both_list_names, with_list}
 use Rattle.kapi_access.specs.Private.Places.{ArePlaces, can_be_joined, first_with, has_key, key_of}
 use Rattle.kapi_access.specs.Together.{are_alike, joined, place_of, with_rule}
-use Rattle.kapi_access.specs.declared.joining.Part.{Part}
-use Rattle.kapi_access.specs.declared.joining.Part.TheVariants as part
+use Rattle.kapi_access.specs.declared.merge_rules.RuleList.{RuleList}
+use Rattle.kapi_access.specs.declared.merge_rules.RuleList.TheVariants as part
 
 -- ---- keys
 
-key_stays : (which : Part) (a b : PolicyRule) → key_of which (with_list which a b) ≡ key_of which a
+key_stays : (which : RuleList) (a b : PolicyRule) → key_of which (with_list which a b) ≡ key_of which a
 key_stays part.Names a b = refl
 key_stays part.Verbs a b = refl
 key_stays part.Resources a b = refl
 key_stays part.Groups a b = refl
 key_stays part.Urls a b = refl
 
-joined_key : (which : Part) (a b : PolicyRule) → key_of which (joined which a b) ≡ key_of which a
+joined_key : (which : RuleList) (a b : PolicyRule) → key_of which (joined which a b) ≡ key_of which a
 joined_key part.Names a b = refl
 joined_key part.Verbs a b = refl
 joined_key part.Resources a b = refl
 joined_key part.Groups a b = refl
 joined_key part.Urls a b = refl
 
-both_can : (which : Part) (a b : PolicyRule) → are_alike which a b ≡ true → (can_be_joined which a ≡ true) × (can_be_joined which b ≡ true)
+both_can : (which : RuleList) (a b : PolicyRule) → are_alike which a b ≡ true → (can_be_joined which a ≡ true) × (can_be_joined which b ≡ true)
 both_can part.Names a b h = both_list_names a b h
 both_can part.Verbs a b h = (refl, refl)
 both_can part.Resources a b h = (refl, refl)
@@ -45,14 +45,14 @@ more_names : (xs ys : List (List ℕ)) → not (length xs == 0) ≡ true → not
 more_names [] ys h = absurd (cc h)
 more_names (x ∷ xs) ys h = rw (eqb-suc-zero (length (xs ++ ys))) refl
 
-joined_can : (which : Part) (a b : PolicyRule) → are_alike which a b ≡ true → can_be_joined which (joined which a b) ≡ true
+joined_can : (which : RuleList) (a b : PolicyRule) → are_alike which a b ≡ true → can_be_joined which (joined which a b) ≡ true
 joined_can part.Names a b h = more_names a.resource_names b.resource_names (both_list_names a b h).0
 joined_can part.Verbs a b h = refl
 joined_can part.Resources a b h = refl
 joined_can part.Groups a b h = refl
 joined_can part.Urls a b h = refl
 
-module _ (which : Part) (k : List ℕ) (a b : PolicyRule) (alike : are_alike which a b ≡ true) where
+module _ (which : RuleList) (k : List ℕ) (a b : PolicyRule) (alike : are_alike which a b ≡ true) where
   joined_has : has_key which k (joined which a b) ≡ has_key which k a
   joined_has = ap₂ (λ c l. c && bytes_eq k l) (joined_can which a b alike ∙ sym (both_can which a b alike).0) (joined_key which a b)
 
@@ -61,12 +61,12 @@ module _ (which : Part) (k : List ℕ) (a b : PolicyRule) (alike : are_alike whi
       ap₂ (λ c l. c && bytes_eq k l) ((both_can which a b alike).0 ∙ sym (both_can which a b alike).1) (sym (key_stays which a b) ∙ ap (key_of which) (all_but which a b alike))
 
 -- a rule that is like another has its key
-its_key : (which : Part) (a b : PolicyRule) → are_alike which a b ≡ true → has_key which (key_of which b) a ≡ true
+its_key : (which : RuleList) (a b : PolicyRule) → are_alike which a b ≡ true → has_key which (key_of which b) a ≡ true
 its_key which a b alike = alike_has which (key_of which b) a b alike ∙ ap₂ (λ c d. c && d) (both_can which a b alike).1 (itself (key_of which b))
 
 -- ---- the first rule with a key
 
-pub inside : (which : Part) (k : List ℕ) (rules : List PolicyRule) (i : ℕ) → first_with which k rules ≡ Some i → i < length rules
+pub inside : (which : RuleList) (k : List ℕ) (rules : List PolicyRule) (i : ℕ) → first_with which k rules ≡ Some i → i < length rules
 inside which k [] i h = absurd (cc h)
 inside which k (x ∷ rules) i h = by_case (has_key which k x) (first_with which k rules) h (inside which k rules)
   where
@@ -75,7 +75,7 @@ inside which k (x ∷ rules) i h = by_case (has_key which k x) (first_with which
     by_case false None h more = absurd (cc h)
     by_case false (Some j) h more = let at : suc j ≡ i = cc in let below : j < length rules = more j refl in omega arith
 
-pub is_place : (which : Part) (rules : List PolicyRule) (rule first : PolicyRule) (i : ℕ) → first_with which (key_of which rule) rules ≡ Some i → first ≡ slice_index_or rules i first
+pub is_place : (which : RuleList) (rules : List PolicyRule) (rule first : PolicyRule) (i : ℕ) → first_with which (key_of which rule) rules ≡ Some i → first ≡ slice_index_or rules i first
     → are_alike which first rule ≡ true → i ≡ place_of which rules rule
 is_place which [] rule first i h there alike = absurd (cc h)
 is_place which (x ∷ rules) rule first i h there alike =
@@ -94,7 +94,7 @@ is_place which (x ∷ rules) rule first i h there alike =
 
 -- ---- a rule that none is like
 
-module _ (which : Part) (rule : PolicyRule) where
+module _ (which : RuleList) (rule : PolicyRule) where
   behind : (b : Bool) (x : PolicyRule) (rules : List PolicyRule) → (b ≡ true → ⊥) → with_rule which rules rule ≡ rules ++ rule ∷ []
       → (if b then joined which x rule ∷ rules else x ∷ with_rule which rules rule) ≡ x ∷ (rules ++ rule ∷ [])
   behind true x rules not_alike more = absurd (not_alike refl)
@@ -124,7 +124,7 @@ abbrev else_last : Option ℕ → Bool → ℕ → Option ℕ
 else_last (Some i) c n = Some i
 else_last None c n = if c then Some n else None
 
-module _ (which : Part) (k : List ℕ) where
+module _ (which : RuleList) (k : List ℕ) where
   one_more : (rules : List PolicyRule) (rule : PolicyRule) → first_with which k (with_rule which rules rule) ≡ else_last (first_with which k rules) (has_key which k rule) (length rules)
   unfolding with_rule
   one_more [] rule = refl
@@ -151,7 +151,7 @@ module _ (which : Part) (k : List ℕ) where
       by_case false other more =
           ap (λ (o : Option ℕ). if has_key which k x then Some 0 else option_map suc o) more ∙ adds (has_key which k x) (has_key which k rule) (first_with which k rules)
 
-module _ (which : Part) (rules : List PolicyRule) (rule : PolicyRule) (places : BTreeMap (List ℕ) ℕ) (are : ArePlaces which rules places) where
+module _ (which : RuleList) (rules : List PolicyRule) (rule : PolicyRule) (places : BTreeMap (List ℕ) ℕ) (are : ArePlaces which rules places) where
   keep : ((k : List ℕ) → has_key which k rule ≡ true → (i : ℕ) × (first_with which k rules ≡ Some i)) → ArePlaces which (with_rule which rules rule) places
   keep some = λ k. are k ∙ sym (one_more which k rules rule ∙ stays (first_with which k rules) (has_key which k rule) (some k))
     where

@@ -22,8 +22,8 @@ use Rattle.kapi_access.proofs.Fresh.{fresh, none_lists}
 use Rattle.kapi_access.proofs.Held.{HoldsBy, holds, holds_by, masters_may, may_by, rule_of_may}
 use Rattle.kapi_access.proofs.Points.{allows_own, asked_request, implies_back, matched_can, plain_request, request_of}
 use Rattle.kapi_aggregation.proofs.Lists.{has_kept, has_mapped, kept_of, mapped_of, some_at}
-use Rattle.kapi_gains.proofs.Elements.{has_part, part_of, passing}
-use Rattle.kapi_gains.specs.Access.{may}
+use Rattle.kapi_escalation_laws.proofs.Elements.{has_part, part_of, passing}
+use Rattle.kapi_escalation_laws.specs.Access.{may}
 use Rattle.kapi_aggregation.specs.Members.{Has}
 use Rattle.kapi_access.specs.declared.grantee.Grantee.{Grantee}
 use Rattle.kapi_access.specs.declared.identities.Identities.{Identities}

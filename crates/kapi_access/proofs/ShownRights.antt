@@ -25,13 +25,13 @@ use Rattle.kapi_policy.proofs.Decisions.{allowed_where_held}
 use Rattle.kapi_policy.specs.All.{all_bindings}
 use Rattle.kapi_policy.specs.Decided.{Binding, given, held}
 use Rattle.kapi_policy.specs.Objects.{PolicyObjects}
-use Rattle.kapi_gains.specs.Access.{may}
+use Rattle.kapi_escalation_laws.specs.Access.{may}
 use Rattle.kapi_object.proofs.Clean.{none_if}
 use Rattle.kapi_access.specs.Given.{allows_at, counting_in, given_as, given_at, given_by, given_so_far, is_bare, lines_within, what, what_lines, with_given}
 use Rattle.kapi_access.specs.Scoped.{scoped_cmp}
 use Rattle.kapi_access.specs.Who.{IsRequest, counts}
-use Rattle.kapi_access.specs.declared.given.Given.{Given}
-use Rattle.kapi_access.specs.declared.given.GivenBy.{GivenBy}
+use Rattle.kapi_access.specs.declared.rights_of.Given.{Given}
+use Rattle.kapi_access.specs.declared.rights_of.GivenBy.{GivenBy}
 use Rattle.kapi_access.specs.declared.scoped.ScopedRule.{ScopedRule}
 use Rattle.kapi_access.proofs.Ties.{scoped_same}
 use Rattle.kapi_access.proofs.Walks.{all_count}

@@ -21,13 +21,13 @@ use Rattle.kapi_policy.specs.Decided.{held}
 use Rattle.kapi_policy.specs.Objects.{PolicyObjects}
 use Rattle.kapi_access.proofs.Anywhere.{held_there}
 use Rattle.kapi_access.proofs.Held.{may_by, rule_of_may}
-use Rattle.kapi_gains.proofs.Elements.{passing}
+use Rattle.kapi_escalation_laws.proofs.Elements.{passing}
 use Rattle.kapi_aggregation.proofs.Lists.{some_at}
 use Rattle.kapi_access.specs.Grantees.{matches}
 use Rattle.kapi_access.specs.Risks.{authentication_group, goes_on_after, has_word, impersonating_detail, is_about_details, is_about_users, is_risky, IsImpersonation, IsWithoutRisk, lets_impersonate, lets_on_roles, matches_extra, risks}
-use Rattle.kapi_gains.specs.Access.{IsUnprivileged, may, verb_of}
-use Rattle.kapi_guard.specs.Exempt.{binding, escalating, role_point}
-use Rattle.kapi_guard.specs.Impersonation.{impersonating}
+use Rattle.kapi_escalation_laws.specs.Access.{IsUnprivileged, may, verb_of}
+use Rattle.kapi_escalation.specs.Exempt.{binding, escalating, role_point}
+use Rattle.kapi_escalation.specs.Impersonation.{impersonating}
 use Rattle.kapi_access.specs.Who.{Way, counts, is_named, is_named_in}
 
 -- what is risky

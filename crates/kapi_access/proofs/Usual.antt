@@ -11,10 +11,10 @@ use Rattle.kapi_rules.proofs.Covers.{itself, same}
 use Rattle.kapi_policy.specs.All.{all_bindings}
 use Rattle.kapi_policy.specs.Decided.{Binding}
 use Rattle.kapi_policy.specs.Objects.{PolicyObjects}
-use Rattle.kapi_guard.specs.Impersonation.{own_groups, service_account}
+use Rattle.kapi_escalation.specs.Impersonation.{own_groups, service_account}
 use Rattle.kapi_aggregation.proofs.Lists.{some_at}
 use Rattle.kapi_aggregation.specs.Members.{Has}
-use Rattle.kapi_gains.proofs.Elements.{each_passes, has_right, passing}
+use Rattle.kapi_escalation_laws.proofs.Elements.{each_passes, has_right, passing}
 use Rattle.kapi_access.specs.declared.grantee.Grantee.{Grantee}
 use Rattle.kapi_access.specs.declared.grantee.Grantee.TheVariants as grantee
 use Rattle.kapi_access.specs.declared.identities.Identities.{Identities}

@@ -14,7 +14,7 @@ use Rattle.kapi_lines.specs.declared.form.Form.{Form}
 use Rattle.kapi_lines.specs.declared.form.Form.TheVariants as form
 use Rattle.kapi_access.specs.declared.answer.Shown.{Shown}
 use Rattle.kapi_access.specs.declared.answer.Shown.TheVariants as shown
-use Rattle.kapi_access.specs.declared.question.Wanted.{Wanted}
+use Rattle.kapi_access.specs.declared.question.ScopedPoint.{ScopedPoint}
 
 -- the rules that give much, and then the others, each in their order
 abbrev pub grave_first : List GainedRule → List GainedRule
@@ -58,7 +58,7 @@ abbrev pub ways_text : Form → List Way → List ℕ
 ways_text f ways = ways_report f (map way_row (besides_masters ways))
 
 -- who may do what is asked
-abbrev pub who_text : Form → PolicyObjects → Wanted → List ℕ
+abbrev pub who_text : Form → PolicyObjects → ScopedPoint → List ℕ
 who_text f objects w = ways_text f (who_in objects w.scope w.point)
 
 -- what holds of all who are not listed among the risks

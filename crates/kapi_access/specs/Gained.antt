@@ -16,7 +16,7 @@ use Rattle.kapi_policy.specs.All.{all_bindings}
 use Rattle.kapi_policy.specs.Decided.{Binding, held}
 use Rattle.kapi_policy.specs.Objects.{PolicyObjects}
 use Rattle.kapi_aggregation.specs.Members.{Has}
-use Rattle.kapi_gains.specs.Access.{may}
+use Rattle.kapi_escalation_laws.specs.Access.{may}
 use Rattle.kapi_access.specs.declared.grantee.Grantee.{Grantee}
 use Rattle.kapi_access.specs.declared.identities.Identities.{Identities}
 use Rattle.kapi_access.specs.Grantees.{alone, grantees, matches, role_of, unbound_user}

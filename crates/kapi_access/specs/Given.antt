@@ -13,8 +13,8 @@ use Rattle.kapi_policy.specs.All.{all_bindings}
 use Rattle.kapi_policy.specs.Decided.{Binding, given}
 use Rattle.kapi_policy.specs.Objects.{PolicyObjects}
 use Rattle.kapi_access.specs.Scoped.{scoped_cmp}
-use Rattle.kapi_access.specs.declared.given.Given.{Given}
-use Rattle.kapi_access.specs.declared.given.GivenBy.{GivenBy}
+use Rattle.kapi_access.specs.declared.rights_of.Given.{Given}
+use Rattle.kapi_access.specs.declared.rights_of.GivenBy.{GivenBy}
 use Rattle.kapi_access.specs.declared.scoped.ScopedRule.{ScopedRule}
 
 -- what of a rule counts in the namespace, or everywhere if that is empty: a request for a URL has no namespace

@@ -8,7 +8,7 @@ use Rattle.kapi_rules.specs.declared.point.Point.TheVariants as point
 use Rattle.kapi_access.specs.declared.question.KindNames.{KindNames as NamesOfKind}
 use Rattle.kapi_access.specs.declared.question.Scope.{Scope}
 use Rattle.kapi_access.specs.declared.question.Scope.TheVariants as scope
-use Rattle.kapi_access.specs.declared.question.Wanted.{Wanted}
+use Rattle.kapi_access.specs.declared.question.ScopedPoint.{ScopedPoint}
 
 -- what stands before the first such byte, or all if there is none
 abbrev pub before : ℕ → List ℕ → List ℕ
@@ -90,7 +90,7 @@ begins_with_slash [] = false
 begins_with_slash (b ∷ s) = b == 47
 
 -- a path is asked about cluster-wide
-abbrev pub question_of : List ℕ → List ℕ → Scope → List ℕ → Wanted
+abbrev pub question_of : List ℕ → List ℕ → Scope → List ℕ → ScopedPoint
 question_of verb resource s name =
     if begins_with_slash resource then record { scope = scope.Cluster; point = point.Url (record { verb = verb; path = resource }) }
     else record { scope = s; point = resource_point verb resource name }
@@ -106,7 +106,7 @@ abbrev pub scope_in : List ℕ → Scope
 scope_in word = if bytes_eq word (codes "*") then scope.Cluster else scope.Namespace word
 
 -- `VERB RESOURCE [NAMESPACE [NAME]]`
-abbrev pub question_by : List (List ℕ) → Option Wanted
+abbrev pub question_by : List (List ℕ) → Option ScopedPoint
 question_by (verb ∷ resource ∷ []) = Some (question_of verb resource scope.Cluster [])
 question_by (verb ∷ resource ∷ namespace ∷ []) = Some (question_of verb resource (scope_in namespace) [])
 question_by (verb ∷ resource ∷ namespace ∷ name ∷ []) = Some (question_of verb resource (scope_in namespace) name)
@@ -117,5 +117,5 @@ unfoldable pub without_return : List ℕ → List ℕ
 without_return line = if bytes_eq (drop (length line - 1) line) (13 ∷ []) then take (length line - 1) line else line
 
 -- the question of a line, if it is one
-unfoldable pub question_in : List ℕ → Option Wanted
+unfoldable pub question_in : List ℕ → Option ScopedPoint
 question_in line = if is_utf8 (without_return line) then question_by (words_in (without_return line)) else None

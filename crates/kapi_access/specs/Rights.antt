@@ -9,7 +9,7 @@ use Rattle.kapi_model.specs.Kinds.{role_kind_text}
 use Rattle.kapi_object.specs.Contents.{rule_tree}
 use Rattle.kapi_policy.specs.Objects.{PolicyObjects}
 use Rattle.kapi_access.specs.Given.{lines_within, what_lines}
-use Rattle.kapi_access.specs.declared.given.GivenBy.{GivenBy}
+use Rattle.kapi_access.specs.declared.rights_of.GivenBy.{GivenBy}
 use Rattle.kapi_access.specs.declared.scoped.ScopedRule.{ScopedRule}
 use Rattle.kapi_access.specs.Cells.{binding_kind, listed, namespace_text, targets, text_of_grant, without_comma}
 use Rattle.kapi_access.specs.Rows.{masters_row}

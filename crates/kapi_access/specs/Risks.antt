@@ -12,9 +12,9 @@ use Rattle.kapi_rules.specs.declared.point.Point.{Point}
 use Rattle.kapi_rules.specs.declared.point.Point.TheVariants as point
 use Rattle.kapi_policy.specs.All.{all_bindings}
 use Rattle.kapi_policy.specs.Objects.{PolicyObjects}
-use Rattle.kapi_guard.specs.Exempt.{binding, escalating}
-use Rattle.kapi_guard.specs.Impersonation.{impersonating}
-use Rattle.kapi_gains.specs.Access.{may}
+use Rattle.kapi_escalation.specs.Exempt.{binding, escalating}
+use Rattle.kapi_escalation.specs.Impersonation.{impersonating}
+use Rattle.kapi_escalation_laws.specs.Access.{may}
 use Rattle.kapi_access.specs.declared.first_ways.Listed.TheVariants as listed
 use Rattle.kapi_access.specs.Who.{Way, first_ways, ways}
 

@@ -4,7 +4,7 @@ use Rattle.std.specs.List.{list_all}
 use Rattle.std.specs.Str.{bytes_eq}
 use Rattle.kapi_model.specs.declared.identity.Identity.{Identity}
 use Rattle.kapi_model.specs.Identities.{is_in}
-use Rattle.kapi_guard.specs.Impersonation.{own_groups, service_account}
+use Rattle.kapi_escalation.specs.Impersonation.{own_groups, service_account}
 use Rattle.kapi_access.specs.declared.identities.Identities.{Identities}
 use Rattle.kapi_access.specs.declared.identities.Identities.TheVariants as identities
 
@@ -26,8 +26,8 @@ usual_groups user =
     if bytes_eq user anonymous_user then unauthenticated ∷ [] else own_groups (service_account user) ++ authenticated ∷ []
 
 -- the user in those groups and the ones that it has by itself
-abbrev pub asked_as : List ℕ → List (List ℕ) → Identity
-asked_as user groups = record { user = user; groups = groups ++ usual_groups user }
+abbrev pub with_default_groups : List ℕ → List (List ℕ) → Identity
+with_default_groups user groups = record { user = user; groups = groups ++ usual_groups user }
 
 -- the identity of requests without credentials
 abbrev pub anonymous : Identity

@@ -50,7 +50,7 @@ same_grantee (grantee.User a) (grantee.Group b) = false
 same_grantee (grantee.Group a) (grantee.User b) = false
 
 -- ways that were found, and how often each user and group is listed among them
-pub record Found : Type 0 where
+pub record FoundWays : Type 0 where
   pub listed : Listed
   pub list : List Way
 
@@ -60,11 +60,11 @@ within listed.Once w = []
 within listed.InEachScope w = w.binding.namespace
 
 -- some way that was found is the grantee's there
-abbrev pub is_told : Found → List ℕ → Grantee → Bool
+abbrev pub is_told : FoundWays → List ℕ → Grantee → Bool
 is_told f there to = list_any (λ w. bytes_eq there (within f.listed w) && same_grantee to w.to) f.list
 
 -- what was found and the way behind it, unless it has one of that grantee there
-abbrev pub with_way : Found → Way → Found
+abbrev pub with_way : FoundWays → Way → FoundWays
 with_way f way = record { listed = f.listed; list = if is_told f (within f.listed way) way.to then f.list else f.list ++ way ∷ [] }
 
 -- of each user and group its first way, of all or in each scope

@@ -12,7 +12,7 @@ use crate::gained::{Gain, compare};
 use crate::gained_rules::{GainedRule, by_rule};
 use crate::grantee::Grantee;
 use crate::identities::Identities;
-use crate::question::Wanted;
+use crate::question::ScopedPoint;
 use crate::risky::{is_grave, risks};
 use crate::way::Way;
 use kapi_lines::Form;
@@ -158,7 +158,7 @@ pub fn answer_who<P: Policy>(
     form: Form,
     policy: &P,
     bindings: &[Binding<'_>],
-    wanted: &Wanted,
+    wanted: &ScopedPoint,
 ) -> Result<Vec<u8>, Memory>
     requires { map binding_of bindings.now ≡ all_bindings (P.content policy.now) }
     ensures { IfOk result (λ v. v.items ≡ answers.who_text form (P.content policy.now) wanted.now) }

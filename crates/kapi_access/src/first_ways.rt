@@ -65,9 +65,9 @@ impl<'a> Model for FirstWays<'a> {
     ghost use Rattle.std.specs.Prelude.{map};
     ghost use Rattle.kapi_access.specs.Noted.{HaveThose};
     ghost use Rattle.kapi_access.specs.Views.{way_of};
-    ghost use Rattle.kapi_access.specs.Who.{Found};
+    ghost use Rattle.kapi_access.specs.Who.{FoundWays};
 
-    ghost Value = { Found };
+    ghost Value = { FoundWays };
 
     ghost view = { λ f. record { listed = f.listed; list = map way_of f.list.items } };
 

@@ -9,7 +9,7 @@ ghost use Rattle.kapi_access.specs.Grantees.{alone as alone_of, unbound_user as 
 ghost use Rattle.kapi_access.specs.Earlier.{AreAmong, bindings_at};
 ghost use Rattle.kapi_access.specs.Views.{gain_of, line_for};
 
-use crate::alone::{Alone, unbound_user};
+use crate::default_groups::{Alone, unbound_user};
 use crate::earlier::{first_gives_same, from_place};
 use crate::grantee::{Grantee, grantees};
 use crate::identities::Identities;

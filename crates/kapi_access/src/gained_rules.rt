@@ -7,7 +7,7 @@ ghost use Rattle.kapi_access.specs.Who.{same_grantee as same_grantee_of};
 
 use crate::gained::Gain;
 use crate::grantee::Grantee;
-use crate::joining::together;
+use crate::merge_rules::together;
 use crate::way::again;
 use kapi_model::PolicyRule;
 use kapi_policy::Binding;

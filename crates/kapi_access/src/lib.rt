@@ -3,41 +3,41 @@
 #![tactic(auto)]
 
 mod allowed;
-mod alone;
 mod answer;
 mod cells;
 mod dangling;
+mod default_groups;
 mod earlier;
 mod first_ways;
 mod gained;
 mod gained_rules;
-mod given;
 mod grantee;
 mod identities;
-mod joining;
 pub mod laws;
 mod lines;
+mod merge_rules;
 mod question;
 mod rights;
+mod rights_of;
 mod risky;
 mod rows;
 mod scoped;
 mod way;
 
 pub use allowed::who;
-pub use alone::asked_as;
 pub use answer::{Compared, Shown, answer_compare, answer_risks, answer_who, settled_line};
 pub use dangling::{Covered, absent_accounts, bound_places, covered_rules, dangles};
+pub use default_groups::with_default_groups;
 pub use gained::{Gain, compare};
 pub use gained_rules::{GainedRule, by_rule};
-pub use given::{Given, GivenBy, given_lines, what};
 pub use grantee::Grantee;
 pub use identities::Identities;
-pub use joining::together;
 pub use kapi_lines::Form;
 pub use lines::{LineFault, answer_lines};
-pub use question::{Scope, Wanted, question_of, read_question_line};
+pub use merge_rules::together;
+pub use question::{Scope, ScopedPoint, question_of, read_question_line};
 pub use rights::{Holder, answer_what};
+pub use rights_of::{Given, GivenBy, given_lines, what};
 pub use risky::risks;
 pub use scoped::ScopedRule;
 pub use way::Way;

@@ -1,15 +1,15 @@
 //! Questions of a file, a question a line.
 ghost use Rattle.std.specs.Prelude.{◌≡◌, ◌++◌, IfOk, OnOk, map};
-ghost use Rattle.kapi_text.specs.Gives.{Gives};
+ghost use Rattle.kapi_text.specs.ResultIs.{ResultIs};
 ghost use Rattle.kapi_lines.specs.Lines.{line_of};
 ghost use Rattle.kapi_policy.specs.All.{all_bindings};
 ghost use Rattle.kapi_policy.specs.Views.{binding_of};
 ghost use Rattle.kapi_access.specs.Lines as told;
-ghost use Rattle.kapi_access.specs.Lines.{answered, answered_lines, fault_told};
+ghost use Rattle.kapi_access.specs.Lines.{answered, answered_lines, model_of_fault};
 ghost use Rattle.kapi_access.specs.Answers.{who_text};
 
 use crate::answer::answer_who;
-use crate::question::{Wanted, read_question_line};
+use crate::question::{ScopedPoint, read_question_line};
 use kapi_lines::{Form, Line};
 use kapi_policy::{Binding, Policy};
 use kapi_report::escape;
@@ -69,7 +69,7 @@ fn answer_wanted<P: Policy>(
     policy: &P,
     bindings: &[Binding<'_>],
     line: &Line<'_>,
-    wanted: &Wanted,
+    wanted: &ScopedPoint,
 ) -> Result<Vec<u8>, Memory>
     requires { map binding_of bindings.now ≡ all_bindings (P.content policy.now) }
     ensures { IfOk result (λ v. v.items ≡ told.head form (line_of line.now) ++ who_text form (P.content policy.now) wanted.now) }
@@ -90,7 +90,7 @@ fn answer_line<P: Policy>(
     line: &Line<'_>,
 ) -> Result<Vec<u8>, LineFault>
     requires { map binding_of bindings.now ≡ all_bindings (P.content policy.now) }
-    ensures { Gives fault_told (λ v. v.items) result (answered form (P.content policy.now) (line_of line.now)) }
+    ensures { ResultIs model_of_fault (λ v. v.items) result (answered form (P.content policy.now) (line_of line.now)) }
 {
     match read_question_line(alloc, line.text)? {
         Some(wanted) => Ok(answer_wanted(alloc, form, policy, bindings, line, &wanted)?),
@@ -110,7 +110,7 @@ pub fn answer_lines<P: Policy>(
     lines: &[Line<'_>],
 ) -> Result<Vec<u8>, LineFault>
     requires { map binding_of bindings.now ≡ all_bindings (P.content policy.now) }
-    ensures { Gives fault_told (λ v. v.items) result (answered_lines form (P.content policy.now) (map line_of lines.now)) }
+    ensures { ResultIs model_of_fault (λ v. v.items) result (answered_lines form (P.content policy.now) (map line_of lines.now)) }
 {
     let mut text = Vec::new(alloc);
     for line in lines {

@@ -21,7 +21,7 @@ pub enum Scope {
 
 /// What somebody may do, and where.
 #[derive(Drop)]
-pub struct Wanted {
+pub struct ScopedPoint {
     pub scope: Scope,
     pub point: Point,
 }
@@ -176,11 +176,11 @@ pub fn question_of(
     resource: &str,
     scope: Scope,
     name: &str,
-) -> Result<Wanted, Memory>
+) -> Result<ScopedPoint, Memory>
     ensures { IfOk result (λ w. w ≡ asks.question_of verb.now resource.now scope name.now) }
 {
     if begins_with_slash(resource) {
-        return Ok(Wanted {
+        return Ok(ScopedPoint {
             scope: Scope::Cluster,
             point: Point::Url(UrlPoint {
                 verb: Text::copy_of(alloc, verb)?,
@@ -188,7 +188,7 @@ pub fn question_of(
             }),
         });
     }
-    Ok(Wanted {
+    Ok(ScopedPoint {
         scope,
         point: resource_point(alloc, verb, resource, name)?,
     })
@@ -210,7 +210,7 @@ fn scope_in(alloc: Global, word: &str) -> Result<Scope, Memory>
     Ok(Scope::Namespace(Text::copy_of(alloc, word)?))
 }
 
-fn question_by(alloc: Global, words: &[&str]) -> Result<Option<Wanted>, Memory>
+fn question_by(alloc: Global, words: &[&str]) -> Result<Option<ScopedPoint>, Memory>
     ensures { IfOk result (λ o. o ≡ asks.question_by (map (λ s. s.now) words.now)) }
 {
     match words {
@@ -238,7 +238,7 @@ fn without_return(line: &[u8]) -> &[u8]
 
 /// The question of a line `VERB RESOURCE [NAMESPACE [NAME]]`, where the namespace `*` asks cluster-wide; none where it is none.
 #[tactic(auto, unfolding(crate::specs::Questions::question_in))]
-pub fn read_question_line(alloc: Global, line: &[u8]) -> Result<Option<Wanted>, Memory>
+pub fn read_question_line(alloc: Global, line: &[u8]) -> Result<Option<ScopedPoint>, Memory>
     ensures { IfOk result (λ o. o ≡ asks.question_in line.now) }
 {
     match as_text(without_return(line)) {

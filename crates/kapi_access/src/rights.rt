@@ -8,7 +8,7 @@ ghost use Rattle.kapi_access.specs.Rights as printed;
 
 use crate::answer::MASTERS_OBJECT;
 use crate::cells::{binding_kind, namespace_cell, targets_cell, text_of_grant, texts_cell};
-use crate::given::{GivenBy, given_lines, what};
+use crate::rights_of::{GivenBy, given_lines, what};
 use crate::scoped::ScopedRule;
 use kapi_lines::Form;
 use kapi_model::Identity;

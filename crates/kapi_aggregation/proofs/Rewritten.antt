@@ -7,7 +7,7 @@ use Rattle.std.specs.Prelude.{IfOk}
 use Rattle.serde_json.proofs.Views.{get_member-put}
 use Rattle.serde_json.specs.Data.{Data, array, Items, Members}
 use Rattle.serde_json.specs.Find.{get}
-use Rattle.kapi_text.specs.Gives.{◌>>=◌}
+use Rattle.kapi_text.specs.ResultIs.{◌>>=◌}
 use Rattle.kapi_model.specs.declared.policy_rule.PolicyRule.{PolicyRule}
 use Rattle.kapi_object.proofs.Closed.{Closed, items_hold, members_hold, rule_tree_holds}
 use Rattle.kapi_object.proofs.SetTexts.{in_object}

@@ -6,7 +6,7 @@ ghost use Rattle.kapi_store.specs.Stored.{stored_tree};
 ghost use Rattle.kapi_store.specs.Faults.{fault_of};
 ghost use Rattle.kapi_store.specs.Plain.{plain_change, plain_of};
 ghost use Rattle.kapi_store.specs.State.{Fits};
-ghost use Rattle.kapi_text.specs.Gives.{Gives};
+ghost use Rattle.kapi_text.specs.ResultIs.{ResultIs};
 ghost use Rattle.kapi_aggregation.specs.Rewriting.{rewriting, with_rules as with_rules_of};
 ghost use Rattle.kapi_aggregation.specs.Marks.{keys_if, union_given};
 ghost use Rattle.kapi_aggregation.specs.Turns.{turn_at as turn_of, turn_to as turn_to_rules};
@@ -80,7 +80,7 @@ fn turn_to(
 /// `Missing` if there is no such cluster role, `RevisionsUsedUp` if no revision is left.
 #[tactic(auto, unfolding(crate::specs::Rewriting::rewriting))]
 pub fn rewrite(alloc: Global, store: &Store, turn: &Turn) -> Result<Ready, StoreError>
-    ensures gives { Gives fault_of (map plain_change) result (rewriting turn.now (plain_of store.now)) }
+    ensures gives { ResultIs fault_of (map plain_change) result (rewriting turn.now (plain_of store.now)) }
     ensures fits { IfOk result (Fits store.now) }
 {
     let key = role_key(alloc, &turn.name)?;

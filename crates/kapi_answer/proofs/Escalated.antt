@@ -5,14 +5,14 @@ use Rattle.serde_json.specs.Data.{Data}
 use Rattle.kapi_model.specs.declared.identity.Identity.{Identity}
 use Rattle.kapi_policy.specs.Objects.{PolicyObjects}
 use Rattle.kapi_store.specs.declared.key.Key.{Key}
-use Rattle.kapi_guard.proofs.Granted.{checks_put}
-use Rattle.kapi_guard.specs.Granted.{IsGrantedAt, IsGrantedPut}
-use Rattle.kapi_guard.specs.Kind.{policy_kind}
-use Rattle.kapi_guard.specs.Written.{written_at}
-use Rattle.kapi_guard.specs.declared.kind.PolicyKind.{PolicyKind}
-use Rattle.kapi_guard.proofs.Grants.{granted_where_checked}
-use Rattle.kapi_guard.specs.Checks.{Fault, checked}
-use Rattle.kapi_guard.specs.declared.write.PolicyWrite.{PolicyWrite}
+use Rattle.kapi_escalation.proofs.Granted.{checks_put}
+use Rattle.kapi_escalation.specs.Granted.{IsGrantedAt, IsGrantedPut}
+use Rattle.kapi_escalation.specs.Kind.{policy_kind}
+use Rattle.kapi_escalation.specs.Written.{written_at}
+use Rattle.kapi_escalation.specs.declared.kind.PolicyKind.{PolicyKind}
+use Rattle.kapi_escalation.proofs.Grants.{granted_where_checked}
+use Rattle.kapi_escalation.specs.Checks.{Fault, checked}
+use Rattle.kapi_escalation.specs.declared.write.PolicyWrite.{PolicyWrite}
 use Rattle.kapi_answer.specs.Escalation.{escalated, escalated_as, guarded, told}
 
 passes_as : (of : Option PolicyKind) (objects : PolicyObjects) (identity : Identity) (request_name : List ℕ) (k : Key) (old : Option Data) (new : Data)

@@ -5,8 +5,8 @@ use Rattle.std.specs.List.{AllByRecursion}
 use Rattle.std.specs.Map.{lookup}
 use Rattle.std.specs.Prelude.{IfOk}
 use Rattle.serde_json.specs.Data.{Data}
-use Rattle.kapi_text.specs.Gives.{◌>>=◌}
-use Rattle.kapi_guard.specs.Impersonation.{MakesAs, impersonated}
+use Rattle.kapi_text.specs.ResultIs.{◌>>=◌}
+use Rattle.kapi_escalation.specs.Impersonation.{MakesAs, impersonated}
 use Rattle.kapi_http.specs.declared.message.HttpFault.{HttpFault}
 use Rattle.kapi_http.specs.declared.message.HttpRequest.{HttpRequest}
 use Rattle.kapi_policy.specs.Objects.{PolicyObjects}
@@ -32,11 +32,11 @@ use Rattle.kapi_store.specs.Plain.{Plain, PlainChange, creation_at, creation_in_
 use Rattle.kapi_store.specs.Same.{same_tree}
 use Rattle.kapi_store.specs.UidAndVersion.{uid_in, uid_of, version_in, with_stamps_of}
 use Rattle.kapi_store.specs.declared.key.Key.{Key}
-use Rattle.kapi_guard.proofs.Sound.{either_holds, then_holds}
-use Rattle.kapi_guard.specs.Kind.{policy_kind}
+use Rattle.kapi_escalation.proofs.Sound.{either_holds, then_holds}
+use Rattle.kapi_escalation.specs.Kind.{policy_kind}
 use Rattle.kapi_answer.proofs.Escalated.{passed_is_granted}
-use Rattle.kapi_guard.proofs.Granted.{deletion_is_granted, stamped_is_granted}
-use Rattle.kapi_guard.specs.Granted.{AreGranted, IsDeletion, IsGrantedAt}
+use Rattle.kapi_escalation.proofs.Granted.{deletion_is_granted, stamped_is_granted}
+use Rattle.kapi_escalation.specs.Granted.{AreGranted, IsDeletion, IsGrantedAt}
 use Rattle.kapi_answer.specs.Answer.{Passed, Plan, Task, answer, answer_as, answer_asked, answer_by, answer_passed, carried_out, checked, create, delete, deletes, escalation_checked, passes, place_in, planned, planned_at, planned_creation, planned_for, planned_on, replace, task, tell, tells, to_be_created, to_be_replaced, told, told_well, watch, watching}
 use Rattle.kapi_answer.specs.Authorization.{authorized}
 use Rattle.kapi_answer.specs.Collection.{listed, to_delete_all}

@@ -4,16 +4,16 @@ use Rattle.std.specs.List.{IsDistinct, find}
 use Rattle.std.specs.Map.{lookup}
 use Rattle.std.specs.Prelude.{IfOk, ok_or}
 use Rattle.serde_json.specs.Data.{Data}
-use Rattle.kapi_text.specs.Gives.{◌>>=◌}
+use Rattle.kapi_text.specs.ResultIs.{◌>>=◌}
 use Rattle.kapi_object.specs.Admission.{BodyFault, float, object_of, invalid, not_json, read_as, wrong_kind, wrong_version}
 use Rattle.kapi_http.specs.declared.message.HttpRequest.{HttpRequest}
 use Rattle.kapi_model.specs.Names.{is_name_on}
 use Rattle.kapi_model.specs.declared.fault.FieldFault.{FieldFault}
 use Rattle.kapi_model.specs.declared.row.ResourceRow.{ResourceRow}
 use Rattle.kapi_object.specs.Given.{given_of}
-use Rattle.kapi_object.specs.declared.given.Given.{Given}
-use Rattle.kapi_object.specs.declared.given.GivenText.{GivenText}
-use Rattle.kapi_object.specs.declared.given.GivenText.TheVariants as given
+use Rattle.kapi_object.specs.declared.body_fields.Given.{Given}
+use Rattle.kapi_object.specs.declared.body_fields.GivenText.{GivenText}
+use Rattle.kapi_object.specs.declared.body_fields.GivenText.TheVariants as given
 use Rattle.kapi_object.specs.Merge.{merged}
 use Rattle.kapi_policy.specs.Objects.{PolicyObjects}
 use Rattle.kapi_model.specs.declared.identity.Identity.{Identity}
@@ -31,7 +31,7 @@ use Rattle.kapi_answer.specs.Route.{ResourceRouted, Routed, health, resource, ro
 use Rattle.kapi_answer.specs.declared.query.Filter.{Filter}
 use Rattle.kapi_answer.specs.declared.route.Action.{Action}
 use Rattle.kapi_answer.specs.declared.route.Action.TheVariants as action
-use Rattle.kapi_answer.specs.declared.route.Part.{Part}
+use Rattle.kapi_answer.specs.declared.route.ObjectPart.{ObjectPart}
 use Rattle.kapi_store.proofs.Keys.{filter_distinct, one_distinct}
 use Rattle.kapi_store.specs.Faults.{StoreFault, Conflict}
 use Rattle.kapi_store.specs.Keys.{is_key}
@@ -40,7 +40,7 @@ use Rattle.kapi_store.specs.Plain.{Plain, PlainChange, admits, creation_in_place
 use Rattle.kapi_store.specs.Plain as store
 use Rattle.kapi_store.specs.UidAndVersion.{version_in}
 use Rattle.kapi_store.specs.declared.key.Key.{Key}
-use Rattle.kapi_guard.proofs.Sound.{then_holds}
+use Rattle.kapi_escalation.proofs.Sound.{then_holds}
 use Rattle.kapi_watch.proofs.Lists.{standing_is_named}
 use Rattle.kapi_watch.specs.Histories.{IsNamedBy, IsCreation}
 use Rattle.kapi_answer.proofs.Granted.{review_tells, then_keeps}
@@ -145,7 +145,7 @@ old_stands None version old is = absurd (cc is)
 old_stands (Some t) version old is = admits_old (admits (version_in t) version) t old (Conflict (version_in t)) is
 
 module _ (s : Plain) (h : AreNamed s.objects) where
-  replace_other : (row : ResourceRow) (of : Part) (k : Key) (body : Admitted) → IsHome row k.namespace → IsTold body → IfOk (to_replace s row of k body) IsOther
+  replace_other : (row : ResourceRow) (of : ObjectPart) (k : Key) (body : Admitted) → IsHome row k.namespace → IsTold body → IfOk (to_replace s row of k body) IsOther
   unfolding to_replace
   replace_other row of k body home told_it =
       then_holds (in_name k.name body.given.name) _ IsOther
@@ -159,12 +159,12 @@ module _ (s : Plain) (h : AreNamed s.objects) where
       old_stands (lookup (is_key k) s.objects) body.given.resource_version old (stored_ok k.name (replaceable s k body.given.resource_version) old stands) in
       other_named of row k old tree home (subst Q gives same) (standing_is_named k old s.objects h.named at)))))
 
-  update_other : (row : ResourceRow) (of : Part) (k : Key) (bytes : List ℕ) → IsHome row k.namespace → IfOk (to_update s row of k bytes) IsOther
+  update_other : (row : ResourceRow) (of : ObjectPart) (k : Key) (bytes : List ℕ) → IsHome row k.namespace → IfOk (to_update s row of k bytes) IsOther
   unfolding to_update
   update_other row of k bytes home =
       then_keeps (admitted row bytes) (to_replace s row of k) IsOther (body_told (object_of row bytes)) (λ body told_it. replace_other row of k body home told_it)
 
-  patch_other : (row : ResourceRow) (of : Part) (k : Key) (bytes : List ℕ) → IsHome row k.namespace → IfOk (to_patch s row of k bytes) IsOther
+  patch_other : (row : ResourceRow) (of : ObjectPart) (k : Key) (bytes : List ℕ) → IsHome row k.namespace → IfOk (to_patch s row of k bytes) IsOther
   unfolding to_patch
   patch_other row of k bytes home =
       then_holds (patch_of bytes) _ IsOther

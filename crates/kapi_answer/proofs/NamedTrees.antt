@@ -8,10 +8,10 @@ use Rattle.kapi_model.specs.declared.row.ResourceRow.{ResourceRow}
 use Rattle.kapi_object.proofs.Puts.{put_if_other}
 use Rattle.kapi_object.specs.Given.{given_of, text_given}
 use Rattle.kapi_object.specs.Tree.{in_metadata, members_or_none, metadata_of, unless_null, with_member_of, with_text, without, without_member}
-use Rattle.kapi_object.specs.declared.given.GivenText.TheVariants as given
-use Rattle.kapi_guard.proofs.Admitted.{without_other}
-use Rattle.kapi_answer.specs.declared.route.Part.{Part}
-use Rattle.kapi_answer.specs.declared.route.Part.TheVariants as part
+use Rattle.kapi_object.specs.declared.body_fields.GivenText.TheVariants as given
+use Rattle.kapi_escalation.proofs.Admitted.{without_other}
+use Rattle.kapi_answer.specs.declared.route.ObjectPart.{ObjectPart}
+use Rattle.kapi_answer.specs.declared.route.ObjectPart.TheVariants as part
 use Rattle.kapi_store.specs.UidAndVersion.{metadata_text}
 use Rattle.kapi_store.specs.declared.key.Key.{Key}
 use Rattle.kapi_object.proofs.SetTexts.{in_object, in_text}
@@ -134,7 +134,7 @@ new_named row namespace name tree home called same =
     (λ is. text_same (codes "namespace") (without_status row tree) tree kept ∙ none_outside row namespace name tree home same is)
 
 -- a tree that is put in place of another is named by its place
-pub other_named : (of : Part) (row : ResourceRow) (k : Key) (old tree : Data) → IsHome row k.namespace → in_namespace k.namespace k.name (given_of tree).namespace ≡ Ok tt
+pub other_named : (of : ObjectPart) (row : ResourceRow) (k : Key) (old tree : Data) → IsHome row k.namespace → in_namespace k.namespace k.name (given_of tree).namespace ≡ Ok tt
     → IsNamedBy k old → IsNamedBy k (replacing of row k old tree)
 unfolding replacing
 other_named part.Object row k old tree home same h =

@@ -1,7 +1,7 @@
 -- Refusals if the store refuses.
 use Rattle.std.proofs.Common.{ℕ, List, Option, Some, None, Result, refl}
 use Rattle.std.specs.Option.{option_map}
-use Rattle.kapi_text.specs.Gives.{Fails, ◌>>=◌}
+use Rattle.kapi_text.specs.ResultIs.{Fails, ◌>>=◌}
 use Rattle.kapi_reply.specs.Refusals.{named}
 use Rattle.kapi_reply.specs.declared.refusal.Refused.{Refused}
 use Rattle.kapi_store.specs.Faults.{StoreFault}

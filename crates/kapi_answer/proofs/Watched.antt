@@ -24,13 +24,13 @@ same_text : (x y : List ℕ) → Some x ≡ Some y → x ≡ y
 same_text x y is = cc
 
 -- an event that shows an object
-pub object_told : (s : Plain) (w : PlainWatching) (e : Shown) (object bytes : List ℕ) → Some object ≡ object_text_of e → IsEventChunk bytes e object → told_of bytes ≡ event_reply_of s w e
+pub model_of_object : (s : Plain) (w : PlainWatching) (e : Shown) (object bytes : List ℕ) → Some object ≡ object_text_of e → IsEventChunk bytes e object → told_of bytes ≡ event_reply_of s w e
 unfolding event_reply_of
-object_told s w (Added d) object bytes is tells = ap told_of (tells d (same_text object (compact_text d) is))
-object_told s w (Modified d) object bytes is tells = ap told_of (tells d (same_text object (compact_text d) is))
-object_told s w (Deleted d) object bytes is tells = ap told_of (tells d (same_text object (compact_text d) is))
-object_told s w Expired object bytes is tells = absurd (cc is)
-object_told s w Refused object bytes is tells = absurd (cc is)
+model_of_object s w (Added d) object bytes is tells = ap told_of (tells d (same_text object (compact_text d) is))
+model_of_object s w (Modified d) object bytes is tells = ap told_of (tells d (same_text object (compact_text d) is))
+model_of_object s w (Deleted d) object bytes is tells = ap told_of (tells d (same_text object (compact_text d) is))
+model_of_object s w Expired object bytes is tells = absurd (cc is)
+model_of_object s w Refused object bytes is tells = absurd (cc is)
 
 -- the end of a watch that cannot go on
 pub end_expired : (s : Plain) (w : PlainWatching) (e : Event) → (e ≡ event.Refused → ⊥) → None ≡ object_text_of (event_of e)

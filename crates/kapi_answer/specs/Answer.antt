@@ -2,7 +2,7 @@
 use Rattle.std.specs.Prelude.{ℕ, Bool, List, [], Option, Some, None, Result, Ok, Err}
 use Rattle.std.specs.Map.{lookup}
 use Rattle.serde_json.specs.Data.{Data}
-use Rattle.kapi_text.specs.Gives.{◌>>=◌}
+use Rattle.kapi_text.specs.ResultIs.{◌>>=◌}
 use Rattle.kapi_answer.specs.Escalation.{escalated}
 use Rattle.kapi_http.specs.declared.message.HttpFault.{HttpFault}
 use Rattle.kapi_http.specs.declared.message.HttpRequest.{HttpRequest}
@@ -12,7 +12,7 @@ use Rattle.kapi_model.specs.declared.identity.Identity.{Identity}
 use Rattle.kapi_request_info.specs.Attributes.{info}
 use Rattle.kapi_request_info.specs.Faults.{TargetFault, bad_path, bad_escape, bad_query}
 use Rattle.kapi_request_info.specs.declared.attributes.Attributes.{Attributes}
-use Rattle.kapi_reply.specs.Refusals.{Asked}
+use Rattle.kapi_reply.specs.Refusals.{RefusedRequest}
 use Rattle.kapi_reply.specs.Replies.{fault_reply, content_reply, refusal_reply, target_reply, watch_reply}
 use Rattle.kapi_reply.specs.declared.refusal.BadRequestReason.{BadRequestReason}
 use Rattle.kapi_reply.specs.declared.refusal.BadRequestReason.TheVariants as word
@@ -190,7 +190,7 @@ target_word bad_escape = word.Escape
 target_word bad_query = word.Query
 
 -- a request that the identity makes
-abbrev pub asked_by : Identity → HttpRequest → Attributes → Asked
+abbrev pub asked_by : Identity → HttpRequest → Attributes → RefusedRequest
 asked_by identity request a = record { user = identity.user; method = request.method; attributes = a }
 
 -- the answer to a request of the identity by the result of its checks

@@ -3,7 +3,7 @@ use Rattle.std.specs.Prelude.{ℕ, ◌==◌, Bool, true, false, if◌then◌else
 use Rattle.std.specs.Str.{bytes_eq}
 use Rattle.serde_json.specs.Data.{Data}
 use Rattle.serde_json.specs.Written.{compact_text}
-use Rattle.kapi_text.specs.Gives.{◌>>=◌}
+use Rattle.kapi_text.specs.ResultIs.{◌>>=◌}
 use Rattle.kapi_http.specs.declared.message.StatusCode.TheVariants as status
 use Rattle.kapi_object.specs.Admission.{BodyFault, float, invalid, not_json, object_of, wrong_kind, wrong_version}
 use Rattle.kapi_object.specs.Given.{given_of}
@@ -12,9 +12,9 @@ use Rattle.kapi_object.specs.Tree.{with_text, without_member}
 use Rattle.kapi_model.specs.declared.fault.FaultKind.{FaultKind}
 use Rattle.kapi_model.specs.declared.fault.FaultKind.TheVariants as cause
 use Rattle.kapi_model.specs.declared.fault.FieldFault.{FieldFault}
-use Rattle.kapi_object.specs.declared.given.Given.{Given}
-use Rattle.kapi_object.specs.declared.given.GivenText.{GivenText}
-use Rattle.kapi_object.specs.declared.given.GivenText.TheVariants as given
+use Rattle.kapi_object.specs.declared.body_fields.Given.{Given}
+use Rattle.kapi_object.specs.declared.body_fields.GivenText.{GivenText}
+use Rattle.kapi_object.specs.declared.body_fields.GivenText.TheVariants as given
 use Rattle.kapi_model.specs.declared.row.ResourceRow.{ResourceRow}
 use Rattle.kapi_reply.specs.Refusals.{asked_for, named}
 use Rattle.kapi_reply.specs.declared.reply.Content.TheVariants as content
@@ -22,7 +22,7 @@ use Rattle.kapi_reply.specs.declared.refusal.BadRequestReason.TheVariants as wor
 use Rattle.kapi_reply.specs.declared.refusal.Refusal.{Refusal}
 use Rattle.kapi_reply.specs.declared.refusal.Refusal.TheVariants as refusal
 use Rattle.kapi_reply.specs.declared.refusal.Refused.{Refused}
-use Rattle.kapi_reply.specs.declared.refusal.Sought.TheVariants as sought
+use Rattle.kapi_reply.specs.declared.refusal.Nonexistent.TheVariants as sought
 use Rattle.kapi_store.specs.Faults.{StoreFault, Exists, Missing, Conflict, NoNamespace, NamespaceNotEmpty, RevisionsUsedUp}
 use Rattle.kapi_store.specs.Plain.{Plain, PlainChange, creation_in_place, free_place}
 use Rattle.kapi_store.specs.declared.key.Key.{Key}

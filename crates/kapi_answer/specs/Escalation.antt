@@ -6,18 +6,18 @@ use Rattle.kapi_model.specs.declared.role_ref.RoleRef.{RoleRef}
 use Rattle.kapi_model.specs.declared.identity.Identity.{Identity}
 use Rattle.kapi_policy.specs.Objects.{PolicyObjects}
 use Rattle.kapi_store.specs.declared.key.Key.{Key}
-use Rattle.kapi_guard.specs.declared.kind.PolicyKind.{PolicyKind}
-use Rattle.kapi_guard.specs.Checks.{Fault, checked, lacks, lacks_authority, role_not_found, role_ref_changed}
-use Rattle.kapi_guard.specs.Exempt.{plural}
-use Rattle.kapi_guard.specs.declared.write.WrittenObject.{WrittenObject}
-use Rattle.kapi_guard.specs.declared.write.WrittenObject.TheVariants as written
+use Rattle.kapi_escalation.specs.declared.kind.PolicyKind.{PolicyKind}
+use Rattle.kapi_escalation.specs.Checks.{Fault, checked, lacks, lacks_authority, role_not_found, role_ref_changed}
+use Rattle.kapi_escalation.specs.Exempt.{plural}
+use Rattle.kapi_escalation.specs.declared.write.WrittenObject.{WrittenObject}
+use Rattle.kapi_escalation.specs.declared.write.WrittenObject.TheVariants as written
 use Rattle.kapi_reply.specs.Refusals.{named}
 use Rattle.kapi_reply.specs.declared.refusal.NamedRole.{NamedRole}
 use Rattle.kapi_reply.specs.declared.refusal.Refusal.{Refusal}
 use Rattle.kapi_reply.specs.declared.refusal.Refusal.TheVariants as refusal
 use Rattle.kapi_reply.specs.declared.refusal.Refused.{Refused}
-use Rattle.kapi_guard.specs.Kind.{policy_kind}
-use Rattle.kapi_guard.specs.Written.{written_at}
+use Rattle.kapi_escalation.specs.Kind.{policy_kind}
+use Rattle.kapi_escalation.specs.Written.{written_at}
 
 -- ---- what a request is answered
 

@@ -6,7 +6,7 @@ use Rattle.kapi_http.specs.declared.message.StatusCode.TheVariants as status
 use Rattle.kapi_reply.specs.Refusals.{asked_for}
 use Rattle.kapi_reply.specs.declared.refusal.Refusal.TheVariants as refusal
 use Rattle.kapi_reply.specs.declared.refusal.Refused.{Refused}
-use Rattle.kapi_reply.specs.declared.refusal.Sought.TheVariants as sought
+use Rattle.kapi_reply.specs.declared.refusal.Nonexistent.TheVariants as sought
 use Rattle.kapi_store.specs.Keys.{is_key}
 use Rattle.kapi_store.specs.Plain.{Plain}
 use Rattle.kapi_store.specs.declared.key.Key.{Key}

@@ -1,7 +1,7 @@
 -- The effective identity of a request (Kubernetes, 'Authenticating', 'User impersonation').
 use Rattle.std.specs.Prelude.{List, Option, Some, None, Result, Ok, Err}
-use Rattle.kapi_guard.specs.Granted.{AreGranted}
-use Rattle.kapi_guard.specs.Impersonation.{MakesAs, impersonated}
+use Rattle.kapi_escalation.specs.Granted.{AreGranted}
+use Rattle.kapi_escalation.specs.Impersonation.{MakesAs, impersonated}
 use Rattle.kapi_http.specs.declared.message.HttpRequest.{HttpRequest}
 use Rattle.kapi_policy.specs.Objects.{PolicyObjects}
 use Rattle.kapi_model.specs.declared.identity.Identity.{Identity}

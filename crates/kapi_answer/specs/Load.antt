@@ -4,11 +4,11 @@ use Rattle.std.specs.List.{find}
 use Rattle.std.specs.Str.{bytes_eq}
 use Rattle.serde_json.specs.Data.{Data, string}
 use Rattle.serde_json.specs.Find.{get}
-use Rattle.kapi_text.specs.Gives.{◌>>=◌}
+use Rattle.kapi_text.specs.ResultIs.{◌>>=◌}
 use Rattle.kapi_model.specs.declared.row.ResourceRow.{ResourceRow}
 use Rattle.kapi_object.specs.Given.{given_of}
-use Rattle.kapi_object.specs.declared.given.GivenText.{GivenText}
-use Rattle.kapi_object.specs.declared.given.GivenText.TheVariants as given
+use Rattle.kapi_object.specs.declared.body_fields.GivenText.{GivenText}
+use Rattle.kapi_object.specs.declared.body_fields.GivenText.TheVariants as given
 use Rattle.kapi_object.specs.Admission.{read_as, version_of}
 use Rattle.kapi_reply.specs.Refusals.{asked_for}
 use Rattle.kapi_reply.specs.declared.refusal.BadRequestReason.TheVariants as word
@@ -30,11 +30,11 @@ pub data LoadFault : Type 0 where
   not_stored : Refused → LoadFault
 
 -- the fault that an error reports; running out of memory is none
-abbrev pub fault_told : LoadError → Option LoadFault
-fault_told error.UnknownKind = Some unknown_kind
-fault_told (error.Object refused) = Some (bad_object refused)
-fault_told (error.Store refused) = Some (not_stored refused)
-fault_told error.Memory = None
+abbrev pub model_of_fault : LoadError → Option LoadFault
+model_of_fault error.UnknownKind = Some unknown_kind
+model_of_fault (error.Object refused) = Some (bad_object refused)
+model_of_fault (error.Store refused) = Some (not_stored refused)
+model_of_fault error.Memory = None
 
 -- the value is the text
 abbrev pub is_text : List ℕ → Option Data → Bool

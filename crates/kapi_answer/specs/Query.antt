@@ -17,7 +17,7 @@ use Rattle.kapi_request_info.specs.declared.query.QueryPair.{QueryPair}
 use Rattle.kapi_answer.specs.declared.query.Filter.{Filter}
 use Rattle.kapi_answer.specs.declared.route.Action.{Action}
 use Rattle.kapi_answer.specs.declared.route.Action.TheVariants as action
-use Rattle.kapi_text.specs.Gives.{◌>>=◌}
+use Rattle.kapi_text.specs.ResultIs.{◌>>=◌}
 
 -- the value of a key, empty if there is none
 unfoldable pub asked : List QueryPair → List ℕ → List ℕ

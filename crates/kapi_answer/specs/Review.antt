@@ -1,9 +1,9 @@
 -- The answer to a review, which is not kept (Kubernetes API, authorization.k8s.io/v1).
 use Rattle.std.specs.Prelude.{ℕ, if◌then◌else◌, List, [], Option, None, Result, Ok}
-use Rattle.kapi_text.specs.Gives.{◌>>=◌}
+use Rattle.kapi_text.specs.ResultIs.{◌>>=◌}
 use Rattle.kapi_http.specs.declared.message.StatusCode.TheVariants as status
 use Rattle.kapi_model.specs.declared.row.ResourceRow.{ResourceRow}
-use Rattle.kapi_object.specs.declared.given.GivenText.{GivenText}
+use Rattle.kapi_object.specs.declared.body_fields.GivenText.{GivenText}
 use Rattle.kapi_policy.specs.Objects.{PolicyObjects}
 use Rattle.kapi_model.specs.declared.identity.Identity.{Identity}
 use Rattle.kapi_reply.specs.declared.refusal.Refused.{Refused}

@@ -15,9 +15,9 @@ use Rattle.kapi_reply.specs.declared.refusal.Place.{Place}
 use Rattle.kapi_reply.specs.declared.refusal.Place.TheVariants as place
 use Rattle.kapi_answer.specs.declared.route.Action.{Action}
 use Rattle.kapi_answer.specs.declared.route.Action.TheVariants as action
-use Rattle.kapi_answer.specs.declared.route.Part.TheVariants as part
+use Rattle.kapi_answer.specs.declared.route.ObjectPart.TheVariants as part
 use Rattle.kapi_store.specs.Rows.{is_of}
-use Rattle.kapi_text.specs.Gives.{◌>>=◌}
+use Rattle.kapi_text.specs.ResultIs.{◌>>=◌}
 use Rattle.kapi_reply.specs.Refusals.{asked_for}
 
 -- a resource request that is served: its resource type, its point and its action

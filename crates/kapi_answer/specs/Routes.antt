@@ -1,6 +1,6 @@
 -- The route that the code finds is the definition's.
 use Rattle.std.specs.Prelude.{Result, Some}
-use Rattle.kapi_text.specs.Gives.{Gives}
+use Rattle.kapi_text.specs.ResultIs.{ResultIs}
 use Rattle.kapi_reply.specs.declared.refusal.Refused.{Refused}
 use Rattle.kapi_answer.specs.declared.route.ResourceRoute.{ResourceRoute}
 use Rattle.kapi_answer.specs.declared.route.Route.{Route}
@@ -18,4 +18,4 @@ route_data (route.Resource r) = resource (resource_data r)
 
 -- what was found is what the definition returns
 abbrev pub Routes : Result Route Refused → Result Routed Refused → Type 0
-Routes result given = Gives (λ e. Some e) route_data result given
+Routes result given = ResultIs (λ e. Some e) route_data result given

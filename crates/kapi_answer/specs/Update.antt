@@ -3,20 +3,20 @@
 use Rattle.std.specs.Prelude.{ℕ, if◌then◌else◌, List, codes, Option, Some, Result, Ok, Err, ok_or}
 use Rattle.std.specs.Map.{lookup}
 use Rattle.serde_json.specs.Data.{Data}
-use Rattle.kapi_text.specs.Gives.{◌>>=◌}
+use Rattle.kapi_text.specs.ResultIs.{◌>>=◌}
 use Rattle.kapi_object.specs.Admission.{read_as}
 use Rattle.kapi_http.specs.declared.message.StatusCode.TheVariants as status
 use Rattle.kapi_model.specs.declared.row.ResourceRow.{ResourceRow}
 use Rattle.kapi_object.specs.Tree.{json_object, with_member_of, with_text}
-use Rattle.kapi_object.specs.declared.given.GivenText.{GivenText}
+use Rattle.kapi_object.specs.declared.body_fields.GivenText.{GivenText}
 use Rattle.kapi_object.specs.Merge.{merged}
 use Rattle.kapi_reply.specs.Refusals.{asked_for, named}
 use Rattle.kapi_reply.specs.declared.reply.Content.TheVariants as content
 use Rattle.kapi_reply.specs.declared.refusal.BadRequestReason.TheVariants as word
 use Rattle.kapi_reply.specs.declared.refusal.Refusal.TheVariants as refusal
 use Rattle.kapi_reply.specs.declared.refusal.Refused.{Refused}
-use Rattle.kapi_answer.specs.declared.route.Part.{Part}
-use Rattle.kapi_answer.specs.declared.route.Part.TheVariants as part
+use Rattle.kapi_answer.specs.declared.route.ObjectPart.{ObjectPart}
+use Rattle.kapi_answer.specs.declared.route.ObjectPart.TheVariants as part
 use Rattle.kapi_store.specs.Keys.{is_key}
 use Rattle.kapi_store.specs.Plain.{Plain, PlainChange, replaceable, replacement_in_place}
 use Rattle.kapi_store.specs.declared.key.Key.{Key}
@@ -34,12 +34,12 @@ keeping_status row old tree = if row.has_status then with_member_of (codes "stat
 
 -- the tree that is stored once a part of the old object is replaced by the same part of another: the other object with
 -- its path's name and namespace and the old status, or the old object with the other's status
-unfoldable pub replacing : Part → ResourceRow → Key → Data → Data → Data
+unfoldable pub replacing : ObjectPart → ResourceRow → Key → Data → Data → Data
 replacing part.Object row k old tree = keeping_status row old (with_namespace_on row k.namespace (with_text (codes "name") k.name tree))
 replacing part.Status row k old tree = with_member_of (codes "status") tree old
 
 -- the tree to be stored at the key, for a body that was read: name, namespace, existence and version, validity
-unfoldable pub to_replace : Plain → ResourceRow → Part → Key → Admitted → Result (Key × Data) Refused
+unfoldable pub to_replace : Plain → ResourceRow → ObjectPart → Key → Admitted → Result (Key × Data) Refused
 to_replace s row of k body = do
   name ← in_name k.name body.given.name
   namespace ← in_namespace k.namespace k.name body.given.namespace
@@ -48,7 +48,7 @@ to_replace s row of k body = do
   Ok (k, replacing of row k old tree)
 
 -- the tree to be stored by an update, from its body on
-unfoldable pub to_update : Plain → ResourceRow → Part → Key → List ℕ → Result (Key × Data) Refused
+unfoldable pub to_update : Plain → ResourceRow → ObjectPart → Key → List ℕ → Result (Key × Data) Refused
 to_update s row of k bytes = do
   body ← admitted row bytes
   to_replace s row of k body
@@ -58,7 +58,7 @@ abbrev pub patch_of : List ℕ → Result Data Refused
 patch_of bytes = ok_or (json_object bytes) (asked_for (refusal.BadRequest word.Json))
 
 -- the tree to be stored by a patch: it is merged into the stored object, and the result is checked as a body is
-unfoldable pub to_patch : Plain → ResourceRow → Part → Key → List ℕ → Result (Key × Data) Refused
+unfoldable pub to_patch : Plain → ResourceRow → ObjectPart → Key → List ℕ → Result (Key × Data) Refused
 to_patch s row of k bytes = do
   patch ← patch_of bytes
   old ← existing s k

@@ -8,7 +8,7 @@ use Rattle.kapi_http.specs.declared.message.Method.TheVariants as method
 use Rattle.kapi_model.specs.declared.row.ResourceRow.{ResourceRow}
 use Rattle.kapi_model.specs.declared.identity.Identity.{Identity}
 use Rattle.kapi_policy.specs.Objects.{PolicyObjects}
-use Rattle.kapi_reply.specs.Refusals.{Asked, asked_for, expired}
+use Rattle.kapi_reply.specs.Refusals.{RefusedRequest, asked_for, expired}
 use Rattle.kapi_reply.specs.Replies.{refusal_status}
 use Rattle.kapi_reply.specs.Status.{Subject, status_of}
 use Rattle.kapi_reply.specs.declared.refusal.Refusal.TheVariants as refusal
@@ -20,7 +20,7 @@ use Rattle.kapi_watch.specs.Running.{RefinesWatch, watch_data}
 use Rattle.kapi_watch.specs.Shown.{Shown, Added, Deleted, Expired, Modified, Refused}
 use Rattle.kapi_watch.specs.Text.{event_tree, type_of}
 use Rattle.kapi_watch.specs.Watches.{PlainWatch, TooLarge, TooOld, WatchFault, startable, watch_from}
-use Rattle.kapi_watch.specs.declared.scope.Scope.{Scope}
+use Rattle.kapi_watch.specs.declared.scope.WatchScope.{WatchScope}
 use Rattle.kapi_answer.specs.Authorization.{is_authorized}
 use Rattle.kapi_answer.specs.declared.watch.After.{After}
 use Rattle.kapi_answer.specs.declared.watch.After.TheVariants as after
@@ -78,7 +78,7 @@ abbrev pub after_end : Bool → After
 after_end close = if close then after.Closes else after.WatchEnded
 
 -- the subject that the end of a watch is about
-abbrev pub subject_of : Scope → Subject
+abbrev pub subject_of : WatchScope → Subject
 subject_of scope = record { group = scope.row.group; resource = scope.row.plural; name = scope.name }
 
 -- the Status object that ends a watch which cannot go on
@@ -86,7 +86,7 @@ abbrev pub expired_status : Plain → PlainWatch → Data
 expired_status s w = status_of (Some (subject_of w.scope)) (expired (record { asked = w.position; begins = window_start s }))
 
 -- the request that a watch was started by, which is a GET
-abbrev pub started_by : PlainWatching → Asked
+abbrev pub started_by : PlainWatching → RefusedRequest
 started_by w = record { user = w.identity.user; method = method.Get; attributes = w.attributes }
 
 -- the Status object that refuses the request of a watch whose identity may no longer make it

@@ -2,7 +2,7 @@
 ghost use Rattle.std.specs.Prelude.{◌≡◌, None, IfOk, map};
 ghost use Rattle.std.specs.List.{IsDistinct};
 ghost use Rattle.std.specs.Map.{keys_of as keys_in};
-ghost use Rattle.kapi_text.specs.Gives.{Gives};
+ghost use Rattle.kapi_text.specs.ResultIs.{ResultIs};
 ghost use Rattle.kapi_reply.specs.Refusals.{refused_by};
 ghost use Rattle.kapi_store.specs.Keys.{is_key};
 ghost use Rattle.kapi_store.specs.Listing.{shown};
@@ -54,7 +54,7 @@ pub fn check_delete_all(
     filter: &Filter,
     body: &[u8],
 ) -> Result<Deletion, CheckError>
-    ensures gives { Gives refused_by deletion_data result (to_delete_all (plain_of store.now) row.now namespace.now filter.now body.now) }
+    ensures gives { ResultIs refused_by deletion_data result (to_delete_all (plain_of store.now) row.now namespace.now filter.now body.now) }
     ensures distinct { IfOk result (λ d. IsDistinct is_key d.keys.items) }
 {
     check_options(alloc, body)?;
@@ -71,7 +71,7 @@ fn delete_listed(
     listed: &[Listed<'_>],
 ) -> Result<Deletion, CheckError>
     requires { IsDistinct is_key (keys_in (map shown listed.now)) }
-    ensures gives { Gives refused_by deletion_data result (deletes_all (plain_of store.now) row.now (trees (map shown listed.now))) }
+    ensures gives { ResultIs refused_by deletion_data result (deletes_all (plain_of store.now) row.now (trees (map shown listed.now))) }
     ensures distinct { IfOk result (λ d. IsDistinct is_key d.keys.items) }
 {
     let name = Text::copy_of(alloc, "")?;

@@ -1,7 +1,7 @@
 //! The creation of an object.
 ghost use Rattle.std.specs.Prelude.{◌≡◌, ◌≤◌, [], true, Ok, Some, IfOk, IfSome, OnOk, map as map_of};
 ghost use Rattle.std.specs.Option.{option_map};
-ghost use Rattle.kapi_text.specs.Gives.{Gives, ◌>>=◌ as and_then};
+ghost use Rattle.kapi_text.specs.ResultIs.{ResultIs, ◌>>=◌ as and_then};
 ghost use Rattle.serde_json.specs.Data.{depth};
 ghost use Rattle.serde_json.specs.Read.{max_depth};
 ghost use Rattle.serde_json.specs.View.{view};
@@ -22,7 +22,7 @@ use crate::response::{NewObject, Response};
 use kapi_http::StatusCode;
 use kapi_model::{FaultKind, FieldFault, ResourceRow, check_name};
 use kapi_object::{Given, GivenText, Object, ObjectError, admit_tree, read_tree};
-use kapi_reply::{BadRequestReason, CheckError, Content, Refusal, Refused, Sought};
+use kapi_reply::{BadRequestReason, CheckError, Content, Nonexistent, Refusal, Refused};
 use kapi_store::{Change, Key, Shared, Store, StoreError, StoredObject};
 use kapi_text::{Memory, Sequence, Text, TryCopy};
 use serde_json::Value;
@@ -44,7 +44,7 @@ pub fn check_create(
     namespace: &str,
     body: &[u8],
 ) -> Result<NewObject, CheckError>
-    ensures gives { Gives refused_by new_data result (to_create (plain_of store.now) row.now namespace.now body.now) }
+    ensures gives { ResultIs refused_by new_data result (to_create (plain_of store.now) row.now namespace.now body.now) }
     ensures free { IfOk result (λ new. free_place (plain_of store.now) new.key ≡ Ok tt) }
 {
     let body = read_body(alloc, row, body)?;
@@ -60,7 +60,7 @@ pub fn check_body(
     namespace: &str,
     body: Admitted,
 ) -> Result<NewObject, CheckError>
-    ensures gives { Gives refused_by new_data result (to_place (plain_of store.now) row.now namespace.now (admitted_data body)) }
+    ensures gives { ResultIs refused_by new_data result (to_place (plain_of store.now) row.now namespace.now (admitted_data body)) }
     ensures free { IfOk result (λ new. free_place (plain_of store.now) new.key ≡ Ok tt) }
 {
     let name = check_given_name(alloc, row, &body.given.name)?;
@@ -78,7 +78,7 @@ fn at_place(
     key: Key,
     object: Result<Object, Sequence<FieldFault>>,
 ) -> Result<NewObject, CheckError>
-    ensures gives { Gives refused_by new_data result (and_then (valid key.name (object_data object)) (λ tree. Ok (key, in_place row.now namespace.now tree))) }
+    ensures gives { ResultIs refused_by new_data result (and_then (valid key.name (object_data object)) (λ tree. Ok (key, in_place row.now namespace.now tree))) }
     ensures key { IfOk result (λ new. new.key ≡ key) }
 {
     let object = check_validity(alloc, &key.name, object)?;
@@ -88,7 +88,7 @@ fn at_place(
 
 /// Checks that the namespace exists and the place is free.
 fn check_place(alloc: Global, store: &Store, key: &Key) -> Result<(), CheckError>
-    ensures gives { Gives refused_by (λ u. u) result (stored key.now.name (free_place (plain_of store.now) key.now)) }
+    ensures gives { ResultIs refused_by (λ u. u) result (stored key.now.name (free_place (plain_of store.now) key.now)) }
     ensures free { OnOk result (free_place (plain_of store.now) key.now ≡ Ok tt) }
 {
     match store.check_place(key) {
@@ -104,9 +104,9 @@ pub fn refused_by_store(name: Text, error: StoreError) -> CheckError
 {
     match error {
         StoreError::Exists => refused(name, Refusal::AlreadyExists),
-        StoreError::NoNamespace => refused(name, Refusal::NotFound(Sought::Namespace)),
+        StoreError::NoNamespace => refused(name, Refusal::NotFound(Nonexistent::Namespace)),
         StoreError::RevisionsUsedUp => refused(name, Refusal::NoRevisionLeft),
-        StoreError::Missing => refused(name, Refusal::NotFound(Sought::Object)),
+        StoreError::Missing => refused(name, Refusal::NotFound(Nonexistent::Object)),
         StoreError::Conflict(version) => refused(name, Refusal::Conflict(version)),
         StoreError::NamespaceNotEmpty => refused(name, Refusal::NamespaceNotEmpty),
         StoreError::Memory => CheckError::Memory,
@@ -118,7 +118,7 @@ pub fn refused_by_store(name: Text, error: StoreError) -> CheckError
 pub fn create(alloc: Global, store: &mut Store, new: NewObject) -> Result<Response, CheckError>
     requires { free_place (plain_of store.old) new.key ≡ Ok tt }
     ensures same { Same store.old store.new }
-    ensures gives { Gives refused_by response_data result (creates (plain_of store.old) (new_data new)) }
+    ensures gives { ResultIs refused_by response_data result (creates (plain_of store.old) (new_data new)) }
     ensures fits { IfOk result (λ o. IfSome o.write (Fits store.new)) }
 {
     let name = new.key.name.copy(alloc)?;
@@ -168,7 +168,7 @@ fn object_text(alloc: Global, object: Option<&StoredObject>) -> Result<Vec<u8>, 
 /// Reads a body; a body that is no JSON object of the resource type's kind and version is a bad request.
 #[tactic(auto, unfolding(crate::specs::Create::admitted_from, kapi_object::specs::Admission::read_as))]
 pub fn read_body(alloc: Global, row: &ResourceRow, body: &[u8]) -> Result<Admitted, CheckError>
-    ensures { Gives refused_by admitted_data result (admitted row.now body.now) }
+    ensures { ResultIs refused_by admitted_data result (admitted row.now body.now) }
 {
     match read_tree(alloc, body) {
         Ok(tree) => admit(alloc, row, tree),
@@ -182,7 +182,7 @@ pub fn read_body(alloc: Global, row: &ResourceRow, body: &[u8]) -> Result<Admitt
 pub fn admit(alloc: Global, row: &ResourceRow, tree: Value) -> Result<Admitted, CheckError>
     requires ordered { is_ordered (view tree) ≡ true }
     requires nests { depth (view tree) ≤ max_depth }
-    ensures { Gives refused_by admitted_data result (admitted_from (read_as row.now (Some (view tree)))) }
+    ensures { ResultIs refused_by admitted_data result (admitted_from (read_as row.now (Some (view tree)))) }
 {
     match admit_tree(alloc, row, tree) {
         Ok(object) => Ok(Admitted {
@@ -218,7 +218,7 @@ pub fn refused(name: Text, why: Refusal) -> CheckError
 /// The name that the body gives, if objects of the resource type may have it.
 #[tactic(auto, unfolding(crate::specs::Create::given_name))]
 fn check_given_name(alloc: Global, row: &ResourceRow, given: &GivenText) -> Result<Text, CheckError>
-    ensures { Gives refused_by (λ t. t) result (given_name row.now given.now) }
+    ensures { ResultIs refused_by (λ t. t) result (given_name row.now given.now) }
 {
     match given {
         GivenText::Absent => Err(invalid_name(
@@ -237,7 +237,7 @@ fn check_given_name(alloc: Global, row: &ResourceRow, given: &GivenText) -> Resu
 
 #[tactic(auto, unfolding(crate::specs::Create::name_text))]
 fn check_name_text(alloc: Global, row: &ResourceRow, name: Text) -> Result<Text, CheckError>
-    ensures { Gives refused_by (λ t. t) result (name_text row.now name) }
+    ensures { ResultIs refused_by (λ t. t) result (name_text row.now name) }
 {
     if name.as_str().is_empty() {
         return Err(invalid_name(alloc, name, FaultKind::Required)?);
@@ -269,7 +269,7 @@ pub fn check_namespace(
     name: &Text,
     given: &GivenText,
 ) -> Result<(), CheckError>
-    ensures { Gives refused_by (λ u. u) result (creation.in_namespace namespace.now name.now given.now) }
+    ensures { ResultIs refused_by (λ u. u) result (creation.in_namespace namespace.now name.now given.now) }
 {
     if is_as_in_path(namespace, given) {
         return Ok(());
@@ -315,7 +315,7 @@ pub fn check_validity(
     name: &Text,
     object: Result<Object, Sequence<FieldFault>>,
 ) -> Result<Object, CheckError>
-    ensures { Gives refused_by tree_of result (valid name.now (object_data object)) }
+    ensures { ResultIs refused_by tree_of result (valid name.now (object_data object)) }
 {
     match object {
         Ok(object) => Ok(object),

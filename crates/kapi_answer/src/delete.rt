@@ -1,7 +1,7 @@
 //! The deletion of an object.
 ghost use Rattle.std.specs.Prelude.{◌≡◌, Some, IfOk, IfSome, option_map};
 ghost use Rattle.serde_json.specs.View.{view};
-ghost use Rattle.kapi_text.specs.Gives.{Gives};
+ghost use Rattle.kapi_text.specs.ResultIs.{ResultIs};
 ghost use Rattle.kapi_reply.specs.Refusals.{refused_by};
 ghost use Rattle.std.specs.List.{IsDistinct};
 ghost use Rattle.kapi_store.specs.Keys.{is_key};
@@ -19,7 +19,7 @@ use kapi_object::tree::has_no_members;
 use kapi_object::tree_form::is_empty;
 use kapi_object::{ObjectError, member, read_tree};
 use kapi_reply::{
-    BadRequestReason, CheckError, Content, Refusal, Refused, Sought, Subject, deletion_text,
+    BadRequestReason, CheckError, Content, Nonexistent, Refusal, Refused, Subject, deletion_text,
 };
 use kapi_store::{Key, Store, StoredObject};
 use kapi_text::{Memory, TryCopy};
@@ -34,7 +34,7 @@ pub fn check_delete(
     key: Key,
     body: &[u8],
 ) -> Result<Deletion, CheckError>
-    ensures gives { Gives refused_by deletion_data result (to_delete (plain_of store.now) key body.now) }
+    ensures gives { ResultIs refused_by deletion_data result (to_delete (plain_of store.now) key body.now) }
     ensures distinct { IfOk result (λ d. IsDistinct is_key d.keys.items) }
 {
     check_options(alloc, body)?;
@@ -48,11 +48,11 @@ pub fn check_delete(
 
 /// The stored object at the key; refused if there is none.
 pub fn existing<'a>(store: &'a Store, key: &Key) -> Result<&'a StoredObject, Refused>
-    ensures { Gives (λ r. Some r) (λ o. stored_tree o.now) result (deletions.existing (plain_of store.now) key.now) }
+    ensures { ResultIs (λ r. Some r) (λ o. stored_tree o.now) result (deletions.existing (plain_of store.now) key.now) }
 {
     match store.get(key) {
         Some(object) => Ok(object),
-        None => Err(Refused::asked_for(Refusal::NotFound(Sought::Object))),
+        None => Err(Refused::asked_for(Refusal::NotFound(Nonexistent::Object))),
     }
 }
 
@@ -72,7 +72,7 @@ fn deletion_reply(alloc: Global, key: &Key, object: &StoredObject) -> Result<Vec
 /// A body is empty, or options that ask for nothing but to delete.
 #[tactic(auto, unfolding(crate::specs::Delete::deletable, crate::specs::Delete::options_of))]
 pub fn check_options(alloc: Global, body: &[u8]) -> Result<(), CheckError>
-    ensures { Gives refused_by (λ u. u) result (deletable body.now) }
+    ensures { ResultIs refused_by (λ u. u) result (deletable body.now) }
 {
     if body.is_empty() {
         return Ok(());
@@ -107,7 +107,7 @@ fn is_unset(value: Option<&Value>) -> bool
 #[tactic(auto, unfolding(crate::specs::Delete::removes))]
 pub fn delete(store: &Store, deletion: Deletion) -> Result<Response, CheckError>
     requires { IsDistinct is_key deletion.keys.items }
-    ensures gives { Gives refused_by response_data result (removes (plain_of store.now) (deletion_data deletion)) }
+    ensures gives { ResultIs refused_by response_data result (removes (plain_of store.now) (deletion_data deletion)) }
     ensures fits { IfOk result (λ o. IfSome o.write (Fits store.now)) }
 {
     match store.remove(deletion.keys) {

@@ -1,10 +1,10 @@
 ghost use Rattle.std.specs.Prelude.{◌≡◌, Some, IfOk};
 ghost use Rattle.std.specs.Option.{option_map};
-ghost use Rattle.kapi_guard.specs.Checks.{fault_of};
+ghost use Rattle.kapi_escalation.specs.Checks.{fault_of};
 ghost use Rattle.kapi_reply.specs.Refusals.{named};
 ghost use Rattle.kapi_answer.specs.Escalation as escalation;
 
-use kapi_guard::{Refused as WriteRefused, WrittenObject, plural};
+use kapi_escalation::{Refused as WriteRefused, WrittenObject, plural};
 use kapi_model::RoleRef;
 use kapi_reply::{NamedRole, Refusal, Refused};
 use kapi_text::{Memory, Text, TryCopy};

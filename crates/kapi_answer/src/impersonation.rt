@@ -1,11 +1,11 @@
 ghost use Rattle.std.specs.Prelude.{unwrap_or};
-ghost use Rattle.kapi_text.specs.Gives.{Gives};
-ghost use Rattle.kapi_guard.specs.Impersonation.{impersonated};
+ghost use Rattle.kapi_text.specs.ResultIs.{ResultIs};
+ghost use Rattle.kapi_escalation.specs.Impersonation.{impersonated};
 ghost use Rattle.kapi_reply.specs.Refusals.{refused_by};
 ghost use Rattle.kapi_request_info.specs.Impersonation as fields;
 ghost use Rattle.kapi_answer.specs.Impersonation.{acts_as, acts_or_refused};
 
-use kapi_guard::{ImpersonationRefused, check_impersonation};
+use kapi_escalation::{ImpersonationRefused, check_impersonation};
 use kapi_http::Header;
 use kapi_model::Identity;
 use kapi_policy::Policy;
@@ -22,7 +22,7 @@ pub fn impersonate<P: Policy>(
     identity: &Identity,
     headers: &[Header],
 ) -> Result<Option<Identity>, CheckError>
-    ensures { Gives refused_by (λ o. unwrap_or o identity.now) result (acts_as (P.content policy.now) identity.now (fields.impersonation headers.now)) }
+    ensures { ResultIs refused_by (λ o. unwrap_or o identity.now) result (acts_as (P.content policy.now) identity.now (fields.impersonation headers.now)) }
 {
     match impersonation(alloc, headers) {
         Ok(None) => Ok(None),
@@ -40,7 +40,7 @@ fn act_as<P: Policy>(
     identity: &Identity,
     wanted: &Impersonation,
 ) -> Result<Identity, CheckError>
-    ensures { Gives refused_by (λ i. i) result (acts_or_refused (impersonated (P.content policy.now) identity.now wanted.now)) }
+    ensures { ResultIs refused_by (λ i. i) result (acts_or_refused (impersonated (P.content policy.now) identity.now wanted.now)) }
 {
     match check_impersonation(alloc, policy, identity, wanted) {
         Ok(other) => Ok(other),

@@ -36,6 +36,6 @@ pub use prepared::Prepared;
 pub use query::{Filter, check_query};
 pub use respond::answer;
 pub use response::{Passed, Plan, Response};
-pub use route::{Action, Part, ResourceRoute, Route, find_route, is_review_group};
+pub use route::{Action, ObjectPart, ResourceRoute, Route, find_route, is_review_group};
 pub use update::replace;
 pub use watch::{After, EventReply, Watching, event_reply, recheck};

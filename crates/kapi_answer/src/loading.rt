@@ -6,14 +6,14 @@ ghost use Rattle.std.specs.Str.{bytes_eq};
 ghost use Rattle.serde_json.specs.Data.{depth};
 ghost use Rattle.serde_json.specs.Read.{max_depth};
 ghost use Rattle.serde_json.specs.View.{view};
-ghost use Rattle.kapi_text.specs.Gives.{Gives};
+ghost use Rattle.kapi_text.specs.ResultIs.{ResultIs};
 ghost use Rattle.kapi_object.specs.Admission.{version_of};
 ghost use Rattle.kapi_object.specs.Order.{is_ordered};
 ghost use Rattle.kapi_store.specs.Plain.{free_place, plain_change, plain_of};
 ghost use Rattle.kapi_store.specs.State.{Same, Fits};
 ghost use Rattle.kapi_answer.specs.Load as loading;
 ghost use Rattle.kapi_answer.specs.Review as reviews;
-ghost use Rattle.kapi_answer.specs.Load.{creates_named, fault_for, fault_told, is_text, loads, to_named};
+ghost use Rattle.kapi_answer.specs.Load.{creates_named, fault_for, model_of_fault, is_text, loads, to_named};
 ghost use Rattle.kapi_answer.specs.Responses.{new_data};
 ghost use Rattle.kapi_reply.specs.Refusals.{refused_by};
 
@@ -23,7 +23,7 @@ use crate::review::review_kind;
 use crate::update::read_json;
 use kapi_model::ResourceRow;
 use kapi_object::GivenText;
-use kapi_object::given::given_at;
+use kapi_object::body_fields::given_at;
 use kapi_reply::{BadRequestReason, CheckError, Refusal, Refused};
 use kapi_store::{Ready, Store};
 use kapi_text::{Memory, TryCopy, is_joined};
@@ -57,7 +57,7 @@ impl From<Memory> for LoadError {
 #[tactic(auto, unfolding(crate::specs::Load::loads))]
 pub fn load(alloc: Global, store: &mut Store, text: &[u8]) -> Result<Ready, LoadError>
     ensures same { Same store.old store.new }
-    ensures gives { Gives fault_told (map_of plain_change) result (loads (plain_of store.old) text.now) }
+    ensures gives { ResultIs model_of_fault (map_of plain_change) result (loads (plain_of store.old) text.now) }
     ensures fits { IfOk result (Fits store.new) }
 {
     match create_named(alloc, store, text) {
@@ -71,7 +71,7 @@ pub fn load(alloc: Global, store: &mut Store, text: &[u8]) -> Result<Ready, Load
 #[tactic(auto, unfolding(crate::specs::Load::creates_named))]
 fn create_named(alloc: Global, store: &mut Store, text: &[u8]) -> Result<Ready, CheckError>
     ensures same { Same store.old store.new }
-    ensures gives { Gives refused_by (map_of plain_change) result (creates_named (plain_of store.old) text.now) }
+    ensures gives { ResultIs refused_by (map_of plain_change) result (creates_named (plain_of store.old) text.now) }
     ensures fits { IfOk result (Fits store.new) }
 {
     let tree = read_json(alloc, text)?;
@@ -88,7 +88,7 @@ fn create_named(alloc: Global, store: &mut Store, text: &[u8]) -> Result<Ready, 
 fn check_named(alloc: Global, store: &Store, tree: Value) -> Result<NewObject, CheckError>
     requires ordered { is_ordered (view tree) ≡ true }
     requires nests { depth (view tree) ≤ max_depth }
-    ensures gives { Gives refused_by new_data result (to_named (plain_of store.now) (view tree)) }
+    ensures gives { ResultIs refused_by new_data result (to_named (plain_of store.now) (view tree)) }
     ensures free { IfOk result (λ new. free_place (plain_of store.now) new.key ≡ Ok tt) }
 {
     let Some(row) = find_row(store.table(), &tree) else {
@@ -105,7 +105,7 @@ fn check_named(alloc: Global, store: &Store, tree: Value) -> Result<NewObject, C
 /// Why an object is not loaded whose creation is refused so.
 #[tactic(auto, unfolding(crate::specs::Load::fault_for))]
 fn error_for(refused: Refused) -> LoadError
-    ensures { fault_told result ≡ Some (fault_for refused.why refused) }
+    ensures { model_of_fault result ≡ Some (fault_for refused.why refused) }
 {
     match &refused.why {
         Refusal::NoSuchResource => LoadError::UnknownKind,

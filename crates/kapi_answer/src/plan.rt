@@ -1,6 +1,6 @@
 //! What a resource request that passes all checks but the store's answers or changes, by its action.
 ghost use Rattle.std.specs.Prelude.{◌≡◌, None, Ok, IfOk};
-ghost use Rattle.kapi_text.specs.Gives.{Gives};
+ghost use Rattle.kapi_text.specs.ResultIs.{ResultIs};
 ghost use Rattle.kapi_reply.specs.Refusals.{refused_by};
 ghost use Rattle.kapi_answer.specs.Routes.{resource_data};
 ghost use Rattle.std.specs.Map.{lookup};
@@ -29,7 +29,7 @@ use crate::watch::{begin, check_since};
 use kapi_http::{HttpRequest, StatusCode};
 use kapi_model::Identity;
 use kapi_policy::Policy;
-use kapi_reply::{CheckError, Content, Refusal, Refused, Sought};
+use kapi_reply::{CheckError, Content, Nonexistent, Refusal, Refused};
 use kapi_request_info::Attributes;
 use kapi_store::{Key, Store};
 use kapi_text::{Memory, Text};
@@ -46,7 +46,7 @@ pub fn plan_for<P: Policy>(
     attributes: &Attributes,
     route: ResourceRoute<'_>,
 ) -> Result<Plan, CheckError>
-    ensures gives { Gives refused_by plan_data result (planned_for (P.content policy.now) (plain_of store.now) identity.now request.now attributes.now (resource_data route.entry)) }
+    ensures gives { ResultIs refused_by plan_data result (planned_for (P.content policy.now) (plain_of store.now) identity.now request.now attributes.now (resource_data route.entry)) }
     ensures ready { IfOk result (IsReady (plain_of store.now)) }
     ensures told { IfOk result ChangesNothing }
 {
@@ -68,7 +68,7 @@ pub fn plan_for<P: Policy>(
 /// A watch can start from its revision; no other request has one.
 #[tactic(auto, unfolding(crate::specs::Watch::since_served, kapi_watch::specs::Watches::startable))]
 fn check_start(store: &Store, since: u64) -> Result<(), CheckError>
-    ensures { Gives refused_by (λ u. u) result (since_served (plain_of store.now) since) }
+    ensures { ResultIs refused_by (λ u. u) result (since_served (plain_of store.now) since) }
 {
     if since == 0 {
         Ok(())
@@ -87,7 +87,7 @@ fn plan_on<P: Policy>(
     task: Task<'_>,
 ) -> Result<Plan, CheckError>
     requires { startable (plain_of store.now) task.filter.now.since ≡ Ok tt }
-    ensures gives { Gives refused_by plan_data result (planned_on action (plain_of store.now) (task_data (P.content policy.now) task.entry)) }
+    ensures gives { ResultIs refused_by plan_data result (planned_on action (plain_of store.now) (task_data (P.content policy.now) task.entry)) }
     ensures ready { IfOk result (IsReady (plain_of store.now)) }
     ensures told { IfOk result ChangesNothing }
 {
@@ -119,7 +119,7 @@ fn plan_on<P: Policy>(
 /// The object that a path names, as JSON text.
 #[tactic(auto, unfolding(crate::specs::Get::found))]
 fn find(alloc: Global, store: &Store, key: &Key) -> Result<Response, CheckError>
-    ensures gives { Gives refused_by response_data result (found (plain_of store.now) key.now) }
+    ensures gives { ResultIs refused_by response_data result (found (plain_of store.now) key.now) }
     ensures told { IfOk result (λ o. o.write ≡ None) }
 {
     match store.get(key) {
@@ -129,7 +129,9 @@ fn find(alloc: Global, store: &Store, key: &Key) -> Result<Response, CheckError>
             body: object.render(alloc)?,
             write: None,
         }),
-        None => Err(CheckError::Refused(Refused::asked_for(Refusal::NotFound(Sought::Object)))),
+        None => Err(CheckError::Refused(Refused::asked_for(Refusal::NotFound(
+            Nonexistent::Object,
+        )))),
     }
 }
 
@@ -153,7 +155,7 @@ fn plan_creation<P: Policy>(
     store: &Store,
     task: Task<'_>,
 ) -> Result<Plan, CheckError>
-    ensures gives { Gives refused_by plan_data result (planned_creation (reviews.review_kind task.entry.row.now) (plain_of store.now) (task_data (P.content policy.now) task.entry)) }
+    ensures gives { ResultIs refused_by plan_data result (planned_creation (reviews.review_kind task.entry.row.now) (plain_of store.now) (task_data (P.content policy.now) task.entry)) }
     ensures ready { IfOk result (IsReady (plain_of store.now)) }
     ensures told { IfOk result ChangesNothing }
 {
@@ -174,7 +176,7 @@ fn plan_create<P: Policy>(
     task: Task<'_>,
     new: NewObject,
 ) -> Result<Plan, CheckError>
-    ensures gives { (s : APlain) → lookup (is_key new.key) s.objects ≡ None → Gives refused_by plan_data result (to_be_created s (task_data (P.content policy.now) task.entry) (new_data new)) }
+    ensures gives { (s : APlain) → lookup (is_key new.key) s.objects ≡ None → ResultIs refused_by plan_data result (to_be_created s (task_data (P.content policy.now) task.entry) (new_data new)) }
     ensures same { IfOk result (λ plan. plan ≡ Plan.Create new) }
 {
     let (identity, name) = (task.identity, task.name);
@@ -190,7 +192,7 @@ fn plan_replace<P: Policy>(
     task: Task<'_>,
     replacement: Replacement,
 ) -> Result<Plan, CheckError>
-    ensures gives { (s : APlain) → IsReplaced s replacement → Gives refused_by plan_data result (to_be_replaced s (task_data (P.content policy.now) task.entry) (new_data replacement.new)) }
+    ensures gives { (s : APlain) → IsReplaced s replacement → ResultIs refused_by plan_data result (to_be_replaced s (task_data (P.content policy.now) task.entry) (new_data replacement.new)) }
     ensures same { IfOk result (λ plan. plan ≡ Plan.Replace replacement) }
 {
     let (new, old) = (&replacement.new, replacement.old.get());

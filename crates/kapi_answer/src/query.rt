@@ -3,7 +3,7 @@
 ghost use Rattle.std.specs.Prelude.{◌≡◌, Some};
 ghost use Rattle.kapi_reply.specs.Refusals.{refused_by};
 ghost use Rattle.kapi_answer.specs.Query as queries;
-ghost use Rattle.kapi_text.specs.Gives.{Gives};
+ghost use Rattle.kapi_text.specs.ResultIs.{ResultIs};
 
 use crate::route::Action;
 use kapi_model::{Selector, SelectorError};
@@ -30,7 +30,7 @@ pub fn check_query(
     current: u64,
     query: &[QueryPair],
 ) -> Result<Filter, CheckError>
-    ensures { Gives refused_by (λ f. f) result (queries.queried action current query.now) }
+    ensures { ResultIs refused_by (λ f. f) result (queries.queried action current query.now) }
 {
     match action {
         Action::Get => check_read(alloc, current, query),
@@ -45,7 +45,7 @@ pub fn check_query(
 
 /// Checks the query of a read of one object at the current revision.
 fn check_read(alloc: Global, current: u64, query: &[QueryPair]) -> Result<Filter, CheckError>
-    ensures { Gives refused_by (λ f. f) result (queries.read current query.now) }
+    ensures { ResultIs refused_by (λ f. f) result (queries.read current query.now) }
 {
     check_version(current, query)?;
     Ok(everything(alloc))
@@ -54,7 +54,7 @@ fn check_read(alloc: Global, current: u64, query: &[QueryPair]) -> Result<Filter
 /// Checks the query of a list. The first check that fails decides: the options, the selectors, the revision.
 #[tactic(auto, unfolding(crate::specs::Query::listed))]
 fn check_list(alloc: Global, current: u64, query: &[QueryPair]) -> Result<Filter, CheckError>
-    ensures { Gives refused_by (λ f. f) result (queries.listed current query.now) }
+    ensures { ResultIs refused_by (λ f. f) result (queries.listed current query.now) }
 {
     check_list_options(query)?;
     let filter = read_filter(alloc, query)?;
@@ -66,7 +66,7 @@ fn check_list(alloc: Global, current: u64, query: &[QueryPair]) -> Result<Filter
 /// are all kept is checked later.
 #[tactic(auto, unfolding(crate::specs::Query::watched))]
 fn check_watch(alloc: Global, current: u64, query: &[QueryPair]) -> Result<Filter, CheckError>
-    ensures { Gives refused_by (λ f. f) result (queries.watched current query.now) }
+    ensures { ResultIs refused_by (λ f. f) result (queries.watched current query.now) }
 {
     let Filter { selector, name, .. } = check_list(alloc, current, query)?;
     Ok(Filter {
@@ -85,7 +85,7 @@ fn revision_asked(query: &[QueryPair]) -> u64
 }
 
 fn check_deletions(alloc: Global, query: &[QueryPair]) -> Result<Filter, CheckError>
-    ensures { Gives refused_by (λ f. f) result (queries.all_deleted query.now) }
+    ensures { ResultIs refused_by (λ f. f) result (queries.all_deleted query.now) }
 {
     refuse_dry_run(query)?;
     read_filter(alloc, query)
@@ -93,7 +93,7 @@ fn check_deletions(alloc: Global, query: &[QueryPair]) -> Result<Filter, CheckEr
 
 /// Checks the query of a write of one object: no dry run is served.
 fn check_write(alloc: Global, query: &[QueryPair]) -> Result<Filter, CheckError>
-    ensures { Gives refused_by (λ f. f) result (queries.written query.now) }
+    ensures { ResultIs refused_by (λ f. f) result (queries.written query.now) }
 {
     refuse_dry_run(query)?;
     Ok(everything(alloc))
@@ -180,7 +180,7 @@ fn is_other_match(text: &str) -> bool
 
 #[tactic(auto, unfolding(crate::specs::Query::filtered))]
 fn read_filter(alloc: Global, query: &[QueryPair]) -> Result<Filter, CheckError>
-    ensures { Gives refused_by (λ f. f) result (queries.filtered query.now) }
+    ensures { ResultIs refused_by (λ f. f) result (queries.filtered query.now) }
 {
     let selector = read_selector(alloc, query)?;
     let name = name_asked(query)?;
@@ -194,7 +194,7 @@ fn read_filter(alloc: Global, query: &[QueryPair]) -> Result<Filter, CheckError>
 /// The label selector that is asked for; a text that is no selector is a bad query.
 #[tactic(auto, unfolding(crate::specs::Query::selector_asked))]
 fn read_selector(alloc: Global, query: &[QueryPair]) -> Result<Selector, CheckError>
-    ensures { Gives refused_by (λ s. s) result (queries.selector_asked query.now) }
+    ensures { ResultIs refused_by (λ s. s) result (queries.selector_asked query.now) }
 {
     match Selector::parse(alloc, asked(query, "labelSelector")) {
         Ok(selector) => Ok(selector),
@@ -205,7 +205,7 @@ fn read_selector(alloc: Global, query: &[QueryPair]) -> Result<Selector, CheckEr
 
 #[tactic(auto, unfolding(crate::specs::Query::name_asked))]
 fn name_asked(query: &[QueryPair]) -> Result<&str, Refused>
-    ensures { Gives (λ e. Some e) (λ name. name.now) result (queries.name_asked query.now) }
+    ensures { ResultIs (λ e. Some e) (λ name. name.now) result (queries.name_asked query.now) }
 {
     name_in(asked(query, "fieldSelector"))
 }
@@ -213,7 +213,7 @@ fn name_asked(query: &[QueryPair]) -> Result<&str, Refused>
 /// The name that a field selector selects; all names if it is empty.
 #[tactic(auto, unfolding(crate::specs::Query::name_selected))]
 fn name_in(text: &str) -> Result<&str, Refused>
-    ensures { Gives (λ e. Some e) (λ name. name.now) result (queries.name_selected text.now) }
+    ensures { ResultIs (λ e. Some e) (λ name. name.now) result (queries.name_selected text.now) }
 {
     if text.is_empty() {
         return Ok("");

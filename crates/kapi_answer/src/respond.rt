@@ -1,5 +1,5 @@
 ghost use Rattle.std.specs.Prelude.{◌≡◌, None, Ok, IfOk, IfSome, option_map};
-ghost use Rattle.kapi_text.specs.Gives.{Gives};
+ghost use Rattle.kapi_text.specs.ResultIs.{ResultIs};
 ghost use Rattle.kapi_reply.specs.Refusals.{refused_by};
 ghost use Rattle.kapi_reply.specs.Replies as replies;
 ghost use Rattle.kapi_request_info.specs.Attributes as attributes_of;
@@ -27,7 +27,7 @@ use kapi_http::{HttpFault, HttpRequest, StatusCode};
 use kapi_model::Identity;
 use kapi_policy::Policy;
 use kapi_reply::{
-    Asked, BadRequestReason, CheckError, Content, Refused, content_reply, fault_reply,
+    BadRequestReason, CheckError, Content, Refused, RefusedRequest, content_reply, fault_reply,
     refusal_reply, target_reply, watch_reply,
 };
 use kapi_request_info::{Attributes, InfoError, info};
@@ -120,7 +120,7 @@ fn refuse(
 ) -> Result<Prepared, Memory>
     ensures { IfOk result (λ p. p ≡ record { reply = replies.refusal_reply (asked_by identity.now request.now attributes.now) request.now.close refused.now; write = None; watch = None }) }
 {
-    let asked = Asked {
+    let asked = RefusedRequest {
         user: identity.user.as_str(),
         method: request.method,
         attributes,
@@ -231,7 +231,7 @@ fn check<P: Policy>(
     attributes: &Attributes,
 ) -> Result<Passed, CheckError>
     ensures same { Same store.old store.new }
-    ensures gives { Gives refused_by passed_data result (checked (P.content policy.now) (plain_of store.old) identity.now request.now attributes.now) }
+    ensures gives { ResultIs refused_by passed_data result (checked (P.content policy.now) (plain_of store.old) identity.now request.now attributes.now) }
     ensures fits { IfOk result (λ p. IfSome (write_of p) (Fits store.new)) }
     ensures fresh { IfOk result (λ p. IfSome (watch_in p) (IsFresh (plain_of store.old))) }
 {
@@ -255,7 +255,7 @@ fn plan<P: Policy>(
     request: &HttpRequest,
     attributes: &Attributes,
 ) -> Result<Plan, CheckError>
-    ensures gives { Gives refused_by plan_data result (planned (P.content policy.now) (plain_of store.now) identity.now request.now attributes.now) }
+    ensures gives { ResultIs refused_by plan_data result (planned (P.content policy.now) (plain_of store.now) identity.now request.now attributes.now) }
     ensures ready { IfOk result (IsReady (plain_of store.now)) }
     ensures told { IfOk result ChangesNothing }
 {
@@ -271,7 +271,7 @@ fn plan<P: Policy>(
 /// Answers a health check (Kubernetes, 'Kubernetes API health endpoints'); authorization has passed.
 #[tactic(auto, unfolding(crate::specs::Answer::told_well))]
 fn health(alloc: Global, request: &HttpRequest) -> Result<Response, CheckError>
-    ensures gives { Gives refused_by response_data result (told_well request.now) }
+    ensures gives { ResultIs refused_by response_data result (told_well request.now) }
     ensures told { IfOk result (λ o. o.write ≡ None) }
 {
     check_media_type(request.method, request.headers.as_slice())?;

@@ -1,7 +1,7 @@
 //! Reviews, which are answered and not kept.
 ghost use Rattle.std.specs.Prelude.{◌≡◌, [], None, Ok, IfOk};
 ghost use Rattle.kapi_http.specs.declared.message.StatusCode.TheVariants as status;
-ghost use Rattle.kapi_text.specs.Gives.{Gives, ◌>>=◌ as and_then};
+ghost use Rattle.kapi_text.specs.ResultIs.{ResultIs, ◌>>=◌ as and_then};
 ghost use Rattle.kapi_object.specs.Object.{tree_of};
 ghost use Rattle.kapi_reply.specs.Refusals.{refused_by};
 ghost use Rattle.kapi_reviews.specs.Reviews.{reviewed};
@@ -46,7 +46,7 @@ pub fn tell_review<P: Policy>(
     kind: ReviewKind,
     task: Task<'_>,
 ) -> Result<Response, CheckError>
-    ensures gives { Gives refused_by response_data result (to_review (P.content policy.now) task.entry.identity.now kind task.entry.row.now task.entry.namespace.now task.entry.body.now) }
+    ensures gives { ResultIs refused_by response_data result (to_review (P.content policy.now) task.entry.identity.now kind task.entry.row.now task.entry.namespace.now task.entry.body.now) }
     ensures told { IfOk result (λ o. o.write ≡ None) }
 {
     let body = read_body(alloc, task.row, task.body)?;
@@ -72,7 +72,7 @@ fn answer_body<P: Policy>(
     namespace: &str,
     body: Admitted,
 ) -> Result<Response, CheckError>
-    ensures gives { Gives refused_by response_data result (to_answer (P.content policy.now) identity.now kind row.now namespace.now (admitted_data body)) }
+    ensures gives { ResultIs refused_by response_data result (to_answer (P.content policy.now) identity.now kind row.now namespace.now (admitted_data body)) }
     ensures told { IfOk result (λ o. o.write ≡ None) }
 {
     check_review_namespace(alloc, row, namespace, &body.given.namespace)?;
@@ -89,7 +89,7 @@ fn answer_review<P: Policy>(
     kind: ReviewKind,
     object: &Object,
 ) -> Result<Response, CheckError>
-    ensures gives { Gives refused_by response_data result (and_then (valid [] (reviewed (P.content policy.now) identity.now kind (tree_of object.now))) (λ answer. Ok (told status.Created answer))) }
+    ensures gives { ResultIs refused_by response_data result (and_then (valid [] (reviewed (P.content policy.now) identity.now kind (tree_of object.now))) (λ answer. Ok (told status.Created answer))) }
     ensures told { IfOk result (λ o. o.write ≡ None) }
 {
     let answer = answer_valid(alloc, policy, identity, kind, object)?;
@@ -109,7 +109,7 @@ fn check_review_namespace(
     namespace: &str,
     given: &GivenText,
 ) -> Result<(), CheckError>
-    ensures { Gives refused_by (λ u. u) result (in_review_namespace row.now namespace.now given.now) }
+    ensures { ResultIs refused_by (λ u. u) result (in_review_namespace row.now namespace.now given.now) }
 {
     if row.namespaced {
         check_namespace(alloc, namespace, &Text::copy_of(alloc, "")?, given)
@@ -127,7 +127,7 @@ fn answer_valid<P: Policy>(
     kind: ReviewKind,
     object: &Object,
 ) -> Result<Object, CheckError>
-    ensures { Gives refused_by tree_of result (valid [] (reviewed (P.content policy.now) identity.now kind (tree_of object.now))) }
+    ensures { ResultIs refused_by tree_of result (valid [] (reviewed (P.content policy.now) identity.now kind (tree_of object.now))) }
 {
     match review(alloc, policy, identity, kind, object.as_tree()) {
         Ok(answer) => Ok(answer),

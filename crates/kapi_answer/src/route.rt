@@ -13,7 +13,7 @@ use kapi_store::Store;
 
 /// Which part of an object is read or written.
 #[derive(Clone, Copy, PartialEq, Eq)]
-pub enum Part {
+pub enum ObjectPart {
     /// All but the status, if that is a subresource.
     Object,
     Status,
@@ -27,8 +27,8 @@ pub enum Action {
     DeleteCollection,
     Get,
     List,
-    Patch(Part),
-    Update(Part),
+    Patch(ObjectPart),
+    Update(ObjectPart),
     Watch,
 }
 
@@ -236,11 +236,11 @@ fn action_at(place: Place, verb: &str, method: Method) -> Result<Action, Refused
         }
         (Place::Collection, Method::Delete) => Ok(Action::DeleteCollection),
         (Place::Object | Place::Status, Method::Get) => Ok(Action::Get),
-        (Place::Object, Method::Put) => Ok(Action::Update(Part::Object)),
-        (Place::Object, Method::Patch) => Ok(Action::Patch(Part::Object)),
+        (Place::Object, Method::Put) => Ok(Action::Update(ObjectPart::Object)),
+        (Place::Object, Method::Patch) => Ok(Action::Patch(ObjectPart::Object)),
         (Place::Object, Method::Delete) => Ok(Action::Delete),
-        (Place::Status, Method::Put) => Ok(Action::Update(Part::Status)),
-        (Place::Status, Method::Patch) => Ok(Action::Patch(Part::Status)),
+        (Place::Status, Method::Put) => Ok(Action::Update(ObjectPart::Status)),
+        (Place::Status, Method::Patch) => Ok(Action::Patch(ObjectPart::Status)),
         (place, _) => Err(Refused::asked_for(Refusal::MethodNotAllowed(place))),
     }
 }

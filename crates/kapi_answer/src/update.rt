@@ -4,7 +4,7 @@ ghost use Rattle.std.specs.Map.{lookup};
 ghost use Rattle.serde_json.specs.Data.{depth};
 ghost use Rattle.serde_json.specs.Read.{max_depth};
 ghost use Rattle.serde_json.specs.View.{view};
-ghost use Rattle.kapi_text.specs.Gives.{Gives, ◌>>=◌ as and_then};
+ghost use Rattle.kapi_text.specs.ResultIs.{ResultIs, ◌>>=◌ as and_then};
 ghost use Rattle.kapi_object.specs.Object.{tree_of};
 ghost use Rattle.kapi_object.specs.Order.{is_ordered};
 ghost use Rattle.kapi_object.specs.Merge.{merged};
@@ -24,7 +24,7 @@ use crate::create::{
 };
 use crate::delete::existing;
 use crate::response::{NewObject, Replacement, Response};
-use crate::route::Part;
+use crate::route::ObjectPart;
 use kapi_http::StatusCode;
 use kapi_model::{FieldFault, ResourceRow};
 use kapi_object::{GivenText, Object, ObjectError, merge_patch, read_tree};
@@ -40,11 +40,11 @@ pub fn check_update(
     alloc: Global,
     store: &Store,
     row: &ResourceRow,
-    part: Part,
+    part: ObjectPart,
     key: Key,
     body: &[u8],
 ) -> Result<Replacement, CheckError>
-    ensures gives { Gives refused_by (λ r. new_data r.new) result (to_update (plain_of store.now) row.now part key body.now) }
+    ensures gives { ResultIs refused_by (λ r. new_data r.new) result (to_update (plain_of store.now) row.now part key body.now) }
     ensures stands { IfOk result (IsReplaced (plain_of store.now)) }
 {
     let body = read_body(alloc, row, body)?;
@@ -57,11 +57,11 @@ pub fn check_patch(
     alloc: Global,
     store: &Store,
     row: &ResourceRow,
-    part: Part,
+    part: ObjectPart,
     key: Key,
     body: &[u8],
 ) -> Result<Replacement, CheckError>
-    ensures gives { Gives refused_by (λ r. new_data r.new) result (to_patch (plain_of store.now) row.now part key body.now) }
+    ensures gives { ResultIs refused_by (λ r. new_data r.new) result (to_patch (plain_of store.now) row.now part key body.now) }
     ensures stands { IfOk result (IsReplaced (plain_of store.now)) }
 {
     let patch = read_json(alloc, body)?;
@@ -72,7 +72,7 @@ pub fn check_patch(
 
 /// The JSON object that a body is.
 pub fn read_json(alloc: Global, body: &[u8]) -> Result<Value, CheckError>
-    ensures gives { Gives refused_by view result (patch_of body.now) }
+    ensures gives { ResultIs refused_by view result (patch_of body.now) }
     ensures ordered { IfOk result (λ v. is_ordered (view v) ≡ true) }
     ensures nests { IfOk result (λ v. depth (view v) ≤ max_depth) }
 {
@@ -102,11 +102,11 @@ fn check_replacement(
     alloc: Global,
     store: &Store,
     row: &ResourceRow,
-    part: Part,
+    part: ObjectPart,
     key: Key,
     body: Admitted,
 ) -> Result<Replacement, CheckError>
-    ensures gives { Gives refused_by (λ r. new_data r.new) result (to_replace (plain_of store.now) row.now part key (admitted_data body)) }
+    ensures gives { ResultIs refused_by (λ r. new_data r.new) result (to_replace (plain_of store.now) row.now part key (admitted_data body)) }
     ensures stands { IfOk result (IsReplaced (plain_of store.now)) }
 {
     check_name(alloc, &key.name, &body.given.name)?;
@@ -124,12 +124,12 @@ fn check_replacement(
 fn in_place_of(
     alloc: Global,
     row: &ResourceRow,
-    part: Part,
+    part: ObjectPart,
     key: Key,
     old: Shared,
     object: Result<Object, Sequence<FieldFault>>,
 ) -> Result<Replacement, CheckError>
-    ensures gives { Gives refused_by (λ r. new_data r.new) result (and_then (valid key.name (object_data object)) (λ tree. Ok (key, updates.replacing part row.now key (stored_tree old) tree))) }
+    ensures gives { ResultIs refused_by (λ r. new_data r.new) result (and_then (valid key.name (object_data object)) (λ tree. Ok (key, updates.replacing part row.now key (stored_tree old) tree))) }
     ensures key { IfOk result (λ r. r.new.key ≡ key) }
     ensures old { IfOk result (λ r. r.old ≡ old) }
 {
@@ -144,7 +144,7 @@ fn in_place_of(
 /// A name that the body gives must be the path's.
 #[tactic(auto, unfolding(crate::specs::Update::in_name))]
 fn check_name(alloc: Global, name: &Text, given: &GivenText) -> Result<(), CheckError>
-    ensures { Gives refused_by (λ u. u) result (updates.in_name name.now given.now) }
+    ensures { ResultIs refused_by (λ u. u) result (updates.in_name name.now given.now) }
 {
     if is_as_in_path(name.as_str(), given) {
         return Ok(());
@@ -160,7 +160,7 @@ fn replaceable(
     key: &Key,
     given: &GivenText,
 ) -> Result<Shared, CheckError>
-    ensures gives { Gives refused_by stored_tree result (stored key.now.name (Rattle.kapi_store.specs.Plain.replaceable (plain_of store.now) key.now given.now)) }
+    ensures gives { ResultIs refused_by stored_tree result (stored key.now.name (Rattle.kapi_store.specs.Plain.replaceable (plain_of store.now) key.now given.now)) }
     ensures found { IfOk result (λ o. lookup (is_key key.now) (plain_of store.now).objects ≡ Some (stored_tree o)) }
 {
     match store.replaceable(key, given) {
@@ -173,7 +173,7 @@ fn replaceable(
 #[tactic(auto, unfolding(crate::specs::Update::replacing))]
 fn replacing(
     alloc: Global,
-    part: Part,
+    part: ObjectPart,
     row: &ResourceRow,
     key: &Key,
     old: &StoredObject,
@@ -182,12 +182,12 @@ fn replacing(
     ensures { IfOk result (λ o. tree_of o ≡ updates.replacing part row.now key.now (stored_tree old.now) (tree_of object)) }
 {
     match part {
-        Part::Object => {
+        ObjectPart::Object => {
             let object = object.named(alloc, key.name.as_str())?;
             let object = with_namespace(alloc, row, key.namespace.as_str(), object)?;
             keep_status(alloc, row, old, object)
         }
-        Part::Status => old.object(alloc)?.with_status_of(alloc, &object),
+        ObjectPart::Status => old.object(alloc)?.with_status_of(alloc, &object),
     }
 }
 
@@ -216,7 +216,7 @@ pub fn replace(
     replacement: Replacement,
 ) -> Result<Response, CheckError>
     requires { IsReplaced (plain_of store.now) replacement }
-    ensures gives { Gives refused_by response_data result (replaces (plain_of store.now) (new_data replacement.new)) }
+    ensures gives { ResultIs refused_by response_data result (replaces (plain_of store.now) (new_data replacement.new)) }
     ensures fits { IfOk result (λ o. IfSome o.write (Fits store.now)) }
 {
     let Replacement { new, old } = replacement;

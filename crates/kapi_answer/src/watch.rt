@@ -2,7 +2,7 @@
 ghost use Rattle.std.specs.Prelude.{◌≡◌, List, Ok, None, IfOk, option_map};
 ghost use Rattle.serde_json.specs.Data.{Data};
 ghost use Rattle.serde_json.specs.Written.{compact_text};
-ghost use Rattle.kapi_text.specs.Gives.{Gives};
+ghost use Rattle.kapi_text.specs.ResultIs.{ResultIs};
 ghost use Rattle.kapi_reply.specs.Refusals.{refused_by};
 ghost use Rattle.kapi_store.specs.Plain.{Plain, PlainChange, RefinesPlain, plain_of};
 ghost use Rattle.kapi_watch.specs.Running.{IsFresh, watch_data};
@@ -18,13 +18,13 @@ use kapi_http::{Method, write_chunk, write_end};
 use kapi_model::{Identity, ResourceRow};
 use kapi_policy::Policy;
 use kapi_reply::{
-    Asked, CheckError, OldRevision, Refusal, Refused, Revisions, Subject, expired_text,
+    CheckError, OldRevision, Refusal, Refused, RefusedRequest, Revisions, Subject, expired_text,
     refusal_text,
 };
 use kapi_request_info::Attributes;
 use kapi_store::Store;
 use kapi_text::{Memory, Sequence};
-use kapi_watch::{Event, Scope, Watch, WatchError, event_text};
+use kapi_watch::{Event, Watch, WatchError, WatchScope, event_text};
 use std::alloc::Global;
 
 /// A watch that a connection shows.
@@ -60,7 +60,7 @@ pub struct EventReply {
 /// A watch can start from that revision on.
 #[tactic(auto, unfolding(crate::specs::Watch::since_served))]
 pub fn check_since(store: &Store, since: u64) -> Result<(), CheckError>
-    ensures { Gives refused_by (λ u. u) result (since_served (plain_of store.now) since) }
+    ensures { ResultIs refused_by (λ u. u) result (since_served (plain_of store.now) since) }
 {
     let why = match Watch::check(store, since) {
         Ok(()) => return Ok(()),
@@ -90,7 +90,7 @@ pub fn begin(
     ensures fresh { IfOk result (IsFresh (plain_of store.now)) }
 {
     let name = filter.name.as_str();
-    let scope = Scope::new(alloc, row, namespace, &filter.selector, name)?;
+    let scope = WatchScope::new(alloc, row, namespace, &filter.selector, name)?;
     Watch::begin(alloc, store, scope, filter.since)
 }
 
@@ -162,7 +162,7 @@ fn refused_reply(alloc: Global, watching: &Watching) -> Result<EventReply, Memor
     ensures { (history : List PlainChange) (s : Plain) (w : PlainWatching) → RefinesWatching watching.now history s w
         → IfOk result (λ r. r ≡ ending_of w.close (refused_status w)) }
 {
-    let asked = Asked {
+    let asked = RefusedRequest {
         user: watching.identity.user.as_str(),
         method: Method::Get,
         attributes: &watching.attributes,

@@ -5,9 +5,9 @@ use Rattle.kapi_audit.specs.Private.Readers.{AreReaders}
 use Rattle.kapi_audit.specs.Private.Sharing.{AreShares, share}
 use Rattle.kapi_lines.specs.declared.line.Line.{Line}
 use Rattle.kapi_audit.specs.declared.reader.Reader.{Reader}
-use Rattle.kapi_desk.specs.Boards.{Chair}
-use Rattle.kapi_desk.specs.Steps.{after}
-use Rattle.kapi_desk.specs.declared.seat.SeatError.{SeatError}
+use Rattle.kapi_publishing.specs.Boards.{Chair}
+use Rattle.kapi_publishing.specs.Steps.{after}
+use Rattle.kapi_publishing.specs.declared.seat.SeatError.{SeatError}
 use Rattle.kapi_model.specs.declared.row.ResourceRow.{ResourceRow}
 
 -- the share of what is made of a list

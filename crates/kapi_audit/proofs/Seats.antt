@@ -1,6 +1,6 @@
 -- Seats to which the published steps are reported, one by one.
 use Rattle.std.proofs.Common.{◌≡◌, ℕ, zero, suc, ◌+◌, All, List, [], ◌∷◌, ◌++◌, length, sym, ◌∙◌, subst, arith}
-use Rattle.kapi_desk.specs.Boards.{Chair}
+use Rattle.kapi_publishing.specs.Boards.{Chair}
 use Rattle.kapi_audit.specs.Private.Readers.{AreReaders}
 use Rattle.kapi_audit.specs.declared.reader.Reader.{Reader}
 

@@ -1,7 +1,7 @@
 -- The shares of readers, question by question.
 use Rattle.std.proofs.Common.{◌≡◌, ℕ, suc, ◌+◌, List, [], ◌∷◌, ◌++◌, Option, Some, None, Result, Ok, Err, map, refl, sym, ap, ◌∙◌, subst, append_assoc, add-one, arith, ok_or, append-nil, drop, drop-cons, get_or, length, ◌<◌, ◌≤◌}
 use Rattle.std.proofs.lemmas.List.{drop_all}
-use Rattle.kapi_text.specs.Gives.{◌>>=◌}
+use Rattle.kapi_text.specs.ResultIs.{◌>>=◌}
 use Rattle.kapi_audit.specs.Answers.{answered_by}
 use Rattle.kapi_audit.specs.Faults.{AuditError, question_line}
 use Rattle.kapi_lines.specs.Lines.{NumberedLine, line_of}

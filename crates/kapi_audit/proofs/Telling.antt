@@ -5,7 +5,7 @@ use Rattle.std.proofs.lemmas.List.{drop_all}
 use Rattle.std.proofs.lemmas.List.Elements.{All-append, All-cons, All-nil}
 use Rattle.std.proofs.lemmas.List.Splits.{slice_split_at, slice_split_none}
 use Rattle.kapi_core.specs.Table.{access_reviews_row}
-use Rattle.kapi_desk.specs.Boards.{Chair}
+use Rattle.kapi_publishing.specs.Boards.{Chair}
 use Rattle.kapi_model.specs.declared.row.ResourceRow.{ResourceRow}
 use Rattle.kapi_lines.proofs.Appending.{appends_more, appends_nothing}
 use Rattle.kapi_script.specs.Scripts.{lines}

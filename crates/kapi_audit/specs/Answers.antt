@@ -1,6 +1,6 @@
 -- The answers of an audit.
 use Rattle.std.specs.Prelude.{ℕ, List, [], ◌∷◌, ◌++◌, Option, Result, Ok, Err, ok_or, option_map}
-use Rattle.kapi_text.specs.Gives.{◌>>=◌}
+use Rattle.kapi_text.specs.ResultIs.{◌>>=◌}
 use Rattle.kapi_core.specs.Machine.{Machine, policy_of}
 use Rattle.kapi_core.specs.Table.{access_reviews_row}
 use Rattle.kapi_model.specs.declared.row.ResourceRow.{ResourceRow}

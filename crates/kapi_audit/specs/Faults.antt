@@ -1,7 +1,7 @@
 -- Why an audit has no answer.
 use Rattle.std.specs.Prelude.{ℕ, List, Option, None, Some, Result}
-use Rattle.kapi_desk.specs.declared.seat.SeatError.{SeatError}
-use Rattle.kapi_desk.specs.declared.seat.SeatError.TheVariants as seat
+use Rattle.kapi_publishing.specs.declared.seat.SeatError.{SeatError}
+use Rattle.kapi_publishing.specs.declared.seat.SeatError.TheVariants as seat
 use Rattle.kapi_loading.specs.declared.fault.StartError.{StartError}
 use Rattle.kapi_loading.specs.declared.fault.StartError.TheVariants as start
 use Rattle.kapi_audit.specs.declared.fault.AuditFault.{AuditFault}
@@ -17,11 +17,11 @@ abbrev pub Answered : Type 0
 Answered = Result (List ℕ) AuditError
 
 -- what a fault reports of the files: nothing if it is out of memory, or a reader was refused
-abbrev pub fault_told : AuditFault → Option AuditError
-fault_told (fault.PolicyLine n) = Some (policy_line n)
-fault_told (fault.QuestionLine n) = Some (question_line n)
-fault_told fault.Memory = None
-fault_told fault.Busy = None
+abbrev pub model_of_fault : AuditFault → Option AuditError
+model_of_fault (fault.PolicyLine n) = Some (policy_line n)
+model_of_fault (fault.QuestionLine n) = Some (question_line n)
+model_of_fault fault.Memory = None
+model_of_fault fault.Busy = None
 
 -- the fault of an audit whose policy is not loaded
 abbrev pub unloaded : StartError → AuditFault

@@ -3,9 +3,9 @@ use Rattle.std.specs.Prelude.{◌≡◌, ℕ, ◌==◌, Bool, true, false, ◌||
 use Rattle.std.specs.Fmt.{decimal}
 use Rattle.std.specs.Io.KnownBytes.{Appends}
 use Rattle.kapi_core.specs.Table.{access_reviews_row}
-use Rattle.kapi_desk.specs.Boards.{Chair}
-use Rattle.kapi_desk.specs.Rule.{Begins}
-use Rattle.kapi_desk.specs.Steps.{after}
+use Rattle.kapi_publishing.specs.Boards.{Chair}
+use Rattle.kapi_publishing.specs.Rule.{Begins}
+use Rattle.kapi_publishing.specs.Steps.{after}
 use Rattle.kapi_model.specs.declared.row.ResourceRow.{ResourceRow}
 use Rattle.kapi_policy.specs.Decided.{decided}
 use Rattle.kapi_reviews.specs.declared.question.Question.{Question}

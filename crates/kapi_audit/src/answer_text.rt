@@ -1,12 +1,12 @@
 //! The line that answers a question.
 ghost use Rattle.std.specs.Prelude.{◌≡◌, IfOk};
 ghost use Rattle.kapi_policy.specs.Views.{decision_of};
-ghost use Rattle.kapi_desk.specs.Boards.{seat_decision};
+ghost use Rattle.kapi_publishing.specs.Boards.{seat_decision};
 ghost use Rattle.kapi_engine.specs.Lines.{decision_line as line_of};
 
-use kapi_desk::SeatDecision;
 use kapi_engine::decision_line;
 use kapi_policy::{Decision, Grant};
+use kapi_publishing::SeatDecision;
 use kapi_text::{Memory, Sequence};
 use std::alloc::Global;
 

@@ -3,14 +3,14 @@ ghost use Rattle.std.specs.Prelude.{◌≡◌, ◌<◌, ◌≤◌, ◌++◌, ◌
 ghost use Rattle.std.specs.Io.KnownBytes.{Consumes, IsAtEnd};
 ghost use Rattle.kapi_audit.specs.Private.Reading.{Reading, ToldSoFar};
 ghost use Rattle.kapi_audit.specs.Reports.{AreReportedIn};
-ghost use Rattle.kapi_desk.specs.Boards.{Chair};
+ghost use Rattle.kapi_publishing.specs.Boards.{Chair};
 ghost use Rattle.kapi_script.specs.Scripts.{lines};
 
 use crate::fault::AnswerFault;
 use crate::report::{make_report, write_report};
 use kapi_core::access_reviews;
-use kapi_desk::Seat;
 use kapi_model::ResourceRow;
+use kapi_publishing::Seat;
 use std::alloc::Global;
 use std::io::{Read, Write};
 

@@ -3,12 +3,12 @@ ghost use Rattle.kapi_core.specs.Machine.{Machine};
 ghost use Rattle.kapi_core.specs.Refines.{Refines};
 ghost use Rattle.kapi_loading.specs.Loading.{policy_machine};
 ghost use Rattle.kapi_loading.specs.Settled.{is_settled as is_settled_machine};
-ghost use Rattle.kapi_text.specs.Gives.{Gives};
+ghost use Rattle.kapi_text.specs.ResultIs.{ResultIs};
 ghost use Rattle.kapi_core.specs.Table.{access_reviews_row, fits};
-ghost use Rattle.kapi_desk.specs.Boards.{Chair, fresh, informed};
-ghost use Rattle.kapi_desk.specs.Steps.{after};
+ghost use Rattle.kapi_publishing.specs.Boards.{Chair, fresh, informed};
+ghost use Rattle.kapi_publishing.specs.Steps.{after};
 ghost use Rattle.kapi_audit.specs.Answers.{answer_of, answered_by, answers, answers_alone};
-ghost use Rattle.kapi_audit.specs.Faults.{Answered, fault_told};
+ghost use Rattle.kapi_audit.specs.Faults.{Answered, model_of_fault};
 ghost use Rattle.kapi_lines.specs.Lines.{line_of};
 ghost use Rattle.kapi_audit.specs.Private.Readers.{AreReaders};
 
@@ -18,11 +18,11 @@ use crate::gathering::gather;
 use crate::reader::Reader;
 use crate::threads::answer_in_threads;
 use kapi_core::{Core, access_reviews};
-use kapi_desk::{Desk, Seat};
 use kapi_index::IndexedPolicy;
 use kapi_lines::{Line, numbered_lines};
 use kapi_loading::{Started, is_settled, start, start_policy};
 use kapi_model::ResourceRow;
+use kapi_publishing::{Desk, Seat};
 use kapi_text::{Memory, Sequence};
 use std::alloc::Global;
 use std::sync::Wait;
@@ -77,7 +77,7 @@ fn answer_all<R: Threads + Sync, G: Gate + Sync>(
 ) -> Result<Vec<u8>, AuditFault>
     requires { 1 ≤ length readers.items }
     ensures { (seat : Chair) → AreReaders seat 0 readers.items
-        → Gives fault_told (λ v. v.items) result (answered_by (answer_of access_reviews_row (after seat.opening seat.seen)) (map line_of lines.now)) }
+        → ResultIs model_of_fault (λ v. v.items) result (answered_by (answer_of access_reviews_row (after seat.opening seat.seen)) (map line_of lines.now)) }
 {
     let row = access_reviews().row(alloc)?;
     let others = readers.len() - 1;
@@ -97,7 +97,7 @@ fn answer_told<R: Threads + Wait + Sync, G: Gate + Sync>(
     requires free { desk.old.waiting ≡ [] }
     requires count { 1 ≤ length seats.items }
     requires seats { All (λ s. s ≡ fresh desk.old) seats.items }
-    ensures { Gives fault_told (λ v. v.items) result (answered_by (answer_of access_reviews_row (after desk.old.opening desk.old.list)) (map line_of lines.now)) }
+    ensures { ResultIs model_of_fault (λ v. v.items) result (answered_by (answer_of access_reviews_row (after desk.old.opening desk.old.list)) (map line_of lines.now)) }
 {
     match desk.retry(rt) {
         Ok(published) => {
@@ -120,7 +120,7 @@ fn answer_seated<R: Threads + Wait + Sync, G: Gate + Sync>(
     requires free { desk.waiting ≡ [] }
     requires count { 1 ≤ length seats.items }
     requires seats { All (λ s. s ≡ fresh desk) seats.items }
-    ensures { Gives fault_told (λ v. v.items) result (answered_by (answer_of access_reviews_row (after desk.opening desk.list)) (map line_of asked.now)) }
+    ensures { ResultIs model_of_fault (λ v. v.items) result (answered_by (answer_of access_reviews_row (after desk.opening desk.list)) (map line_of asked.now)) }
 {
     let mut desk = desk;
     let answered = answer_told(alloc, rt, &mut desk, seats, asked, gate);
@@ -146,7 +146,7 @@ pub fn audit_run<R: Threads + Wait + Sync, G: Gate + Sync>(
 ) -> Result<Vec<u8>, AuditFault>
     requires table { fits table.now ≡ true }
     requires readers { (1 ≤ readers) × (readers ≤ 16) }
-    ensures { Gives fault_told (λ v. v.items) result (answers table.now policy.now questions.now) }
+    ensures { ResultIs model_of_fault (λ v. v.items) result (answers table.now policy.now questions.now) }
 {
     let asked = numbered_lines(alloc, questions)?;
     let started = start(alloc, rt, table, policy, 0, readers)?;
@@ -176,7 +176,7 @@ pub fn audit_alone<R: Threads + Wait + Sync, G: Gate + Sync>(
     gate: &G,
 ) -> Result<Audited, AuditFault>
     requires { (1 ≤ readers) × (readers ≤ 16) }
-    ensures text { Gives fault_told (λ a. a.text.items) result (answers_alone policy.now questions.now) }
+    ensures text { ResultIs model_of_fault (λ a. a.text.items) result (answers_alone policy.now questions.now) }
     ensures settled { (m : Machine) → policy_machine policy.now ≡ Ok m → IfOk result (λ a. a.settled ≡ is_settled_machine m) }
 {
     let asked = numbered_lines(alloc, questions)?;
@@ -195,7 +195,7 @@ fn with_settled(
     core: &mut Core<IndexedPolicy>,
     answered: Result<Vec<u8>, AuditFault>,
 ) -> Result<Audited, AuditFault>
-    ensures text { (given : Answered) → Gives fault_told (λ v. v.items) answered given → Gives fault_told (λ a. a.text.items) result given }
+    ensures text { (given : Answered) → ResultIs model_of_fault (λ v. v.items) answered given → ResultIs model_of_fault (λ a. a.text.items) result given }
     ensures settled { (m : Machine) → Refines core.old m → IfOk result (λ a. a.settled ≡ is_settled_machine m) }
 {
     match answered {

@@ -1,5 +1,5 @@
-use kapi_desk::SeatError;
 use kapi_loading::StartError;
+use kapi_publishing::SeatError;
 use kapi_text::Memory;
 use thiserror::Error;
 

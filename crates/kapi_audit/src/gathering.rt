@@ -1,8 +1,8 @@
 //! The shares of the readers, put together in the order of the questions.
 ghost use Rattle.std.specs.Prelude.{◌≡◌, ◌+◌, ◌++◌, ◌∷◌, [], ℕ, List, Option, Some, IfOk, map, option_map};
-ghost use Rattle.kapi_text.specs.Gives.{Gives};
+ghost use Rattle.kapi_text.specs.ResultIs.{ResultIs};
 ghost use Rattle.kapi_audit.specs.Answers.{answered_by};
-ghost use Rattle.kapi_audit.specs.Faults.{fault_told};
+ghost use Rattle.kapi_audit.specs.Faults.{model_of_fault};
 ghost use Rattle.kapi_lines.specs.Lines.{line_of};
 ghost use Rattle.kapi_audit.specs.Private.Sharing.{AreShares};
 
@@ -50,7 +50,7 @@ pub fn gather(
     lines: &[Line<'_>],
 ) -> Result<Vec<u8>, AuditFault>
     ensures { (answer : List ℕ → Option (List ℕ)) (others : ℕ) → AreShares 0 (others + 1) others (map (λ l. answer l.text.now) lines.now) shares.now
-        → Gives fault_told (λ v. v.items) result (answered_by answer (map line_of lines.now)) }
+        → ResultIs model_of_fault (λ v. v.items) result (answered_by answer (map line_of lines.now)) }
 {
     let mut left = whole_shares(alloc, shares)?;
     let mut text = Vec::new(alloc);

@@ -2,15 +2,15 @@
 ghost use Rattle.std.specs.Prelude.{◌≡◌, ◌++◌, ◌∷◌, [], IfOk, OnOk, map, length};
 ghost use Rattle.kapi_audit.specs.Answers.{answer_of};
 ghost use Rattle.kapi_audit.specs.Private.Sharing.{share};
-ghost use Rattle.kapi_desk.specs.Steps.{after};
+ghost use Rattle.kapi_publishing.specs.Steps.{after};
 
 use crate::answer_text::answer_text;
 use crate::gate::Gate;
 use crate::gathering::Answer;
-use kapi_desk::{Seat, SeatError};
 use kapi_engine::question_of;
 use kapi_lines::Line;
 use kapi_model::ResourceRow;
+use kapi_publishing::{Seat, SeatError};
 use kapi_text::Sequence;
 use std::alloc::Global;
 

@@ -7,9 +7,9 @@ ghost use Rattle.kapi_audit.specs.declared.fault.AnswerFault.TheVariants as Faul
 
 use crate::answer_text::answer_text;
 use crate::fault::AnswerFault;
-use kapi_desk::{Seat, SeatError};
 use kapi_engine::question_of;
 use kapi_model::ResourceRow;
+use kapi_publishing::{Seat, SeatError};
 use kapi_reviews::Question;
 use kapi_text::Sequence;
 use std::alloc::Global;

@@ -3,15 +3,15 @@ ghost use Rattle.std.specs.Prelude.{◌≡◌, ◌+◌, ◌++◌, ◌∷◌, [],
 ghost use Rattle.kapi_audit.specs.Answers.{answer_of};
 ghost use Rattle.kapi_audit.specs.Private.Readers.{AreReaders};
 ghost use Rattle.kapi_audit.specs.Private.Sharing.{AreShares, share};
-ghost use Rattle.kapi_desk.specs.Boards.{Chair};
-ghost use Rattle.kapi_desk.specs.Steps.{after};
+ghost use Rattle.kapi_publishing.specs.Boards.{Chair};
+ghost use Rattle.kapi_publishing.specs.Steps.{after};
 
 use crate::gate::Gate;
 use crate::gathering::Answer;
 use crate::reader::{Reader, answer_share};
-use kapi_desk::SeatError;
 use kapi_lines::Line;
 use kapi_model::ResourceRow;
+use kapi_publishing::SeatError;
 use kapi_text::Sequence;
 use std::alloc::{AllocError, Global};
 use std::thread;

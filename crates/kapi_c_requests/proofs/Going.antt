@@ -1,7 +1,7 @@
 -- A check of each item, one behind the other.
 use Rattle.std.proofs.Common.{◌≡◌, ℕ, suc, ◌+◌, ◌<◌, ◌≤◌, List, [], ◌∷◌, ◌++◌, Option, None, Some, Result, Ok, Err, sym, ap, ◌∙◌, subst, append_assoc, append-nil, add-one, drop, drop-cons, get_or, length, refl}
 use Rattle.std.proofs.lemmas.List.{drop_all}
-use Rattle.kapi_text.specs.Gives.{Fails, ◌>>=◌}
+use Rattle.kapi_text.specs.ResultIs.{Fails, ◌>>=◌}
 use Rattle.kapi_c_requests.specs.Each.{each}
 
 module _ {X Y F : Type 0} (f : X → Result Y F) where

@@ -1,6 +1,6 @@
 -- What is answered to a call, and what the caller finds behind it.
 use Rattle.std.specs.Prelude.{◌≡◌, ℕ, ◌<◌, ◌==◌, Bool, true, false, if◌then◌else◌, List, [], ◌++◌, length, drop, Result, Ok, Err}
-use Rattle.kapi_text.specs.Gives.{◌>>=◌}
+use Rattle.kapi_text.specs.ResultIs.{◌>>=◌}
 use Rattle.kapi_policy.specs.Decided.{Decided, allowed, decided, denied, masters}
 use Rattle.kapi_engine.specs.Lines.{decision_line}
 use Rattle.kapi_engine.specs.declared.loaded_policy.LoadedPolicy.{LoadedPolicy}

@@ -1,6 +1,6 @@
 -- What a check gives of each item.
 use Rattle.std.specs.Prelude.{List, [], ◌∷◌, Result, Ok}
-use Rattle.kapi_text.specs.Gives.{◌>>=◌}
+use Rattle.kapi_text.specs.ResultIs.{◌>>=◌}
 
 -- the result of each item in order, or the first fault
 unfoldable pub each : {X Y F : Type 0} → (X → Result Y F) → List X → Result (List Y) F

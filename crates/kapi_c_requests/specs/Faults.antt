@@ -11,8 +11,8 @@ code_of fault.Text = 3
 code_of fault.Question = 4
 
 -- a fault that the definitions know: nothing is said where memory runs out
-abbrev pub fault_told : CallFault → Option CallFault
-fault_told fault.Memory = None
-fault_told (fault.Line number) = Some (fault.Line number)
-fault_told fault.Text = Some fault.Text
-fault_told fault.Question = Some fault.Question
+abbrev pub model_of_fault : CallFault → Option CallFault
+model_of_fault fault.Memory = None
+model_of_fault (fault.Line number) = Some (fault.Line number)
+model_of_fault fault.Text = Some fault.Text
+model_of_fault fault.Question = Some fault.Question

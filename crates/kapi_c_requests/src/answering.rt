@@ -1,10 +1,10 @@
 //! What is answered to a call, written where the caller said.
 ghost use Rattle.std.specs.Prelude.{◌≡◌, ℕ, List, Result, IfOk};
-ghost use Rattle.kapi_text.specs.Gives.{Fails, Gives};
+ghost use Rattle.kapi_text.specs.ResultIs.{Fails, ResultIs};
 ghost use Rattle.kapi_policy.specs.Views.{decision_of};
 ghost use Rattle.kapi_c_requests.specs.Answers.{Ends, IsAnswered, IsWrittenOrShort, decided_of, failed, given_of, number_alone, number_of, with_line as told_with_line};
 ghost use Rattle.kapi_c_requests.specs.declared.fault.CallFault.{CallFault as AFault};
-ghost use Rattle.kapi_c_requests.specs.Faults.{code_of, fault_told};
+ghost use Rattle.kapi_c_requests.specs.Faults.{code_of, model_of_fault};
 ghost use Rattle.kapi_c_requests.specs.Given.{Given};
 ghost use Rattle.kapi_c_requests.specs.Lists.{ArePaths};
 ghost use Rattle.kapi_c_requests.specs.Views.{told};
@@ -28,7 +28,7 @@ pub struct Answer {
 
 /// A number and a text.
 #[derive(Drop)]
-pub struct Found {
+pub struct NumberedText {
     pub number: u32,
     pub text: Vec<u8>,
 }
@@ -53,22 +53,26 @@ pub fn number_decided(loaded: &LoadedPolicy, asked: &AccessQuestion) -> u32
 }
 
 /// What is decided, without a text.
-fn decided(loaded: &LoadedPolicy, asked: &AccessQuestion, alloc: Global) -> Found
+fn decided(loaded: &LoadedPolicy, asked: &AccessQuestion, alloc: Global) -> NumberedText
     ensures { told result ≡ number_alone (decided_of loaded.now asked.now) }
 {
-    Found {
+    NumberedText {
         number: number_decided(loaded, asked),
         text: Vec::new(alloc),
     }
 }
 
 /// What is decided, and its line.
-fn with_line(alloc: Global, loaded: &LoadedPolicy, asked: &AccessQuestion) -> Result<Found, Memory>
+fn with_line(
+    alloc: Global,
+    loaded: &LoadedPolicy,
+    asked: &AccessQuestion,
+) -> Result<NumberedText, Memory>
     ensures { IfOk result (λ g. told g ≡ told_with_line (decided_of loaded.now asked.now)) }
 {
     let namespace = asked.namespace.as_str();
     let decision = loaded.decide(&asked.identity, namespace, &asked.point);
-    Ok(Found {
+    Ok(NumberedText {
         number: number(&decision),
         text: decision_line(alloc, &decision)?.into_vec(),
     })
@@ -76,8 +80,8 @@ fn with_line(alloc: Global, loaded: &LoadedPolicy, asked: &AccessQuestion) -> Re
 
 /// What is answered.
 #[tactic(auto, unfolding(crate::specs::Answers::given_of))]
-fn find(alloc: Global, loaded: &LoadedPolicy, call: &Call<'_>) -> Result<Found, CallFault>
-    ensures { (paths : List ℕ) × Gives fault_told told result (given_of paths loaded.now call.now) × IfOk result (λ _. call.now.wants ≡ 7 → ArePaths paths loaded.now call.now) }
+fn find(alloc: Global, loaded: &LoadedPolicy, call: &Call<'_>) -> Result<NumberedText, CallFault>
+    ensures { (paths : List ℕ) × ResultIs model_of_fault told result (given_of paths loaded.now call.now) × IfOk result (λ _. call.now.wants ≡ 7 → ArePaths paths loaded.now call.now) }
 {
     match call.wants {
         0 => Ok(settled_with(loaded, Vec::new(alloc))),
@@ -95,7 +99,7 @@ fn find(alloc: Global, loaded: &LoadedPolicy, call: &Call<'_>) -> Result<Found, 
 }
 
 /// Writes the number and the length of the text, and the text to the front of the room, if it fits; else the length alone.
-fn write(found: &Found, answer: &mut Answer, room: &mut [u8]) -> bool
+fn write(found: &NumberedText, answer: &mut Answer, room: &mut [u8]) -> bool
     ensures { IsWrittenOrShort (told found.now) answer.old answer.new room.old room.new result }
 {
     let length = found.text.len();
@@ -111,7 +115,7 @@ fn write(found: &Found, answer: &mut Answer, room: &mut [u8]) -> bool
 /// Writes what stands for a fault, the line at most, and gives the status.
 fn refused(fault: CallFault, answer: &mut Answer) -> u32
     ensures status { result ≡ code_of fault }
-    ensures answer { (given : Result Given AFault) → (room : List ℕ) → Fails (fault_told fault) given → Ends given answer.old answer.new room room (failed fault) }
+    ensures answer { (given : Result Given AFault) → (room : List ℕ) → Fails (model_of_fault fault) given → Ends given answer.old answer.new room room (failed fault) }
 {
     if let CallFault::Line(number) = fault {
         answer.length = number;

@@ -1,9 +1,9 @@
 //! Objects and questions in, decisions out.
 ghost use Rattle.std.specs.Prelude.{◌≡◌, ◌++◌, ◌∷◌, [], IfOk, OnOk, length};
-ghost use Rattle.kapi_text.specs.Gives.{Gives};
+ghost use Rattle.kapi_text.specs.ResultIs.{ResultIs};
 ghost use Rattle.kapi_engine.specs.LoadedPolicies.{loaded_of};
 ghost use Rattle.kapi_c_requests.specs.Batches.{IsBatch, batch_status, end_of, line_after, number_in, numbers_of};
-ghost use Rattle.kapi_c_requests.specs.Faults.{fault_told};
+ghost use Rattle.kapi_c_requests.specs.Faults.{model_of_fault};
 
 use crate::answering::number_decided;
 use crate::fault::CallFault;
@@ -15,7 +15,7 @@ use std::alloc::Global;
 
 /// The number of what is decided of a question.
 fn number(alloc: Global, loaded: &LoadedPolicy, passed: &CQuestion<'_>) -> Result<u32, CallFault>
-    ensures { Gives fault_told (λ n. n) result (number_in loaded.now passed.now) }
+    ensures { ResultIs model_of_fault (λ n. n) result (number_in loaded.now passed.now) }
 {
     let asked = read_question(alloc, passed)?;
     Ok(number_decided(loaded, &asked))
@@ -34,7 +34,7 @@ fn numbers(
     loaded: &LoadedPolicy,
     passed: &[CQuestion<'_>],
 ) -> Result<Vec<u32>, CallFault>
-    ensures numbers { Gives fault_told (λ v. v.items) result (numbers_of loaded.now passed.now) }
+    ensures numbers { ResultIs model_of_fault (λ v. v.items) result (numbers_of loaded.now passed.now) }
     ensures len { IfOk result (λ v. length v.items ≡ length passed.now) }
 {
     let mut numbers = Vec::with_capacity(alloc, passed.len())?;

@@ -2,18 +2,18 @@
 //! and what other objects give besides.
 ghost use Rattle.std.specs.Prelude.{◌≡◌, ◌++◌, ℕ, List, IfOk, OnOk};
 ghost use Rattle.std.specs.List.{flat_map, list_all};
-ghost use Rattle.kapi_text.specs.Gives.{Gives};
+ghost use Rattle.kapi_text.specs.ResultIs.{ResultIs};
 ghost use Rattle.kapi_paths.specs.Rights.{is_kind as is_kind_of_rights};
-ghost use Rattle.kapi_c_requests.specs.Faults.{fault_told};
+ghost use Rattle.kapi_c_requests.specs.Faults.{model_of_fault};
 ghost use Rattle.kapi_c_requests.specs.Lists as lists;
 ghost use Rattle.kapi_c_requests.specs.Views.{told};
 
-use crate::answering::Found;
+use crate::answering::NumberedText;
 use crate::fault::CallFault;
 use crate::passed::{CQuestion, Call};
 use crate::reading::{read_identity, read_question, read_text, read_texts, text_in};
 use kapi_engine::{
-    Form, Holder, Identities, LoadedPolicy, Scope, Shown, StartError, Wanted, compare, load,
+    Form, Holder, Identities, LoadedPolicy, Scope, ScopedPoint, Shown, StartError, compare, load,
 };
 use kapi_model::{RoleKind, RoleRef};
 use kapi_paths::is_kind;
@@ -23,10 +23,10 @@ use kapi_text::{Memory, Sequence, Text};
 use std::alloc::Global;
 
 /// A text, and whether the roles are settled.
-pub fn settled_with(loaded: &LoadedPolicy, text: Vec<u8>) -> Found
+pub fn settled_with(loaded: &LoadedPolicy, text: Vec<u8>) -> NumberedText
     ensures { told result ≡ lists.settled_with loaded.now text.items }
 {
-    Found {
+    NumberedText {
         number: u32::from(loaded.settled),
         text,
     }
@@ -60,12 +60,12 @@ fn who(
     form: Form,
     anywhere: bool,
     passed: &CQuestion<'_>,
-) -> Result<Found, CallFault>
-    ensures { Gives fault_told told result (lists.who_given loaded.now form anywhere passed.now) }
+) -> Result<NumberedText, CallFault>
+    ensures { ResultIs model_of_fault told result (lists.who_given loaded.now form anywhere passed.now) }
 {
     let asked = read_question(alloc, passed)?;
     let scope = scope_of(anywhere, asked.namespace, &asked.point);
-    let wanted = Wanted {
+    let wanted = ScopedPoint {
         scope,
         point: asked.point,
     };
@@ -91,8 +91,8 @@ fn what(
     loaded: &LoadedPolicy,
     form: Form,
     passed: &CQuestion<'_>,
-) -> Result<Found, CallFault>
-    ensures { Gives fault_told told result (lists.what_given loaded.now form passed.now) }
+) -> Result<NumberedText, CallFault>
+    ensures { ResultIs model_of_fault told result (lists.what_given loaded.now form passed.now) }
 {
     let identity = read_identity(alloc, passed)?;
     let namespace = read_text(alloc, passed.namespace)?;
@@ -106,7 +106,7 @@ fn what(
 // ---- risks and paths
 
 /// Who may gain more than the policy gives.
-fn risks(alloc: Global, loaded: &LoadedPolicy, form: Form) -> Result<Found, Memory>
+fn risks(alloc: Global, loaded: &LoadedPolicy, form: Form) -> Result<NumberedText, Memory>
     ensures { IfOk result (λ g. told g ≡ lists.risks_given loaded.now form) }
 {
     Ok(settled_with(loaded, loaded.risks(alloc, form)?))
@@ -121,7 +121,7 @@ fn are_kinds(words: &[Text]) -> bool
 /// The kinds of rights that are left out.
 #[tactic(auto, unfolding(crate::specs::Lists::kinds_of))]
 fn read_kinds(alloc: Global, call: &Call<'_>) -> Result<Sequence<Text>, CallFault>
-    ensures { Gives fault_told (λ t. t) result (lists.kinds_of call.now) }
+    ensures { ResultIs model_of_fault (λ t. t) result (lists.kinds_of call.now) }
 {
     let kinds = read_texts(alloc, call.without)?;
     if are_kinds(kinds.as_slice()) {
@@ -133,8 +133,12 @@ fn read_kinds(alloc: Global, call: &Call<'_>) -> Result<Sequence<Text>, CallFaul
 
 /// Who can become whom.
 #[tactic(auto, unfolding(crate::specs::Lists::paths_given))]
-pub fn paths(alloc: Global, loaded: &LoadedPolicy, call: &Call<'_>) -> Result<Found, CallFault>
-    ensures { (text : List ℕ) × Gives fault_told told result (lists.paths_given text loaded.now call.now) × IfOk result (λ _. lists.ArePaths text loaded.now call.now) }
+pub fn paths(
+    alloc: Global,
+    loaded: &LoadedPolicy,
+    call: &Call<'_>,
+) -> Result<NumberedText, CallFault>
+    ensures { (text : List ℕ) × ResultIs model_of_fault told result (lists.paths_given text loaded.now call.now) × IfOk result (λ _. lists.ArePaths text loaded.now call.now) }
 {
     let form = form_of(call.form)?;
     let to = text_in(call.other)?;
@@ -165,10 +169,10 @@ fn atom_lines(alloc: Global, atoms: &[Atom]) -> Result<Vec<u8>, Memory>
 }
 
 /// Whether nothing is missing, and a line for each atom that is.
-fn lacking(alloc: Global, atoms: &[Atom]) -> Result<Found, Memory>
+fn lacking(alloc: Global, atoms: &[Atom]) -> Result<NumberedText, Memory>
     ensures { IfOk result (λ g. told g ≡ lists.lacking_told atoms.now) }
 {
-    Ok(Found {
+    Ok(NumberedText {
         number: u32::from(atoms.is_empty()),
         text: atom_lines(alloc, atoms)?,
     })
@@ -177,7 +181,7 @@ fn lacking(alloc: Global, atoms: &[Atom]) -> Result<Found, Memory>
 /// The role that is meant.
 #[tactic(auto, unfolding(crate::specs::Lists::role_in))]
 fn role_in(alloc: Global, passed: &CQuestion<'_>) -> Result<RoleRef, CallFault>
-    ensures { Gives fault_told (λ r. r) result (lists.role_in passed.now) }
+    ensures { ResultIs model_of_fault (λ r. r) result (lists.role_in passed.now) }
 {
     let kind = text_in(passed.resource)?;
     let name = read_text(alloc, passed.name)?;
@@ -189,8 +193,12 @@ fn role_in(alloc: Global, passed: &CQuestion<'_>) -> Result<RoleRef, CallFault>
 
 /// What the user lacks of the role.
 #[tactic(auto, unfolding(crate::specs::Lists::missing_given))]
-fn missing(alloc: Global, loaded: &LoadedPolicy, passed: &CQuestion<'_>) -> Result<Found, CallFault>
-    ensures { Gives fault_told told result (lists.missing_given loaded.now passed.now) }
+fn missing(
+    alloc: Global,
+    loaded: &LoadedPolicy,
+    passed: &CQuestion<'_>,
+) -> Result<NumberedText, CallFault>
+    ensures { ResultIs model_of_fault told result (lists.missing_given loaded.now passed.now) }
 {
     let identity = read_identity(alloc, passed)?;
     let namespace = read_text(alloc, passed.namespace)?;
@@ -209,12 +217,12 @@ fn gains_over(
     loaded: &LoadedPolicy,
     form: Form,
     after: &LoadedPolicy,
-) -> Result<Found, Memory>
+) -> Result<NumberedText, Memory>
     ensures { IfOk result (λ g. told g ≡ lists.gains_told form loaded.now after.now) }
 {
     let compared = compare(alloc, form, Shown::Rules, Identities::Any, loaded, after)?;
     let is_none = !compared.gains && loaded.settled && after.settled;
-    Ok(Found {
+    Ok(NumberedText {
         number: u32::from(is_none),
         text: compared.text,
     })
@@ -237,8 +245,8 @@ fn gains(
     loaded: &LoadedPolicy,
     form: Form,
     objects: &[u8],
-) -> Result<Found, CallFault>
-    ensures { Gives fault_told told result (lists.gains_given loaded.now form objects.now) }
+) -> Result<NumberedText, CallFault>
+    ensures { ResultIs model_of_fault told result (lists.gains_given loaded.now form objects.now) }
 {
     match load(alloc, objects) {
         Ok(after) => Ok(gains_over(alloc, loaded, form, &after)?),
@@ -250,7 +258,7 @@ fn gains(
 
 /// How a text is printed.
 fn form_of(number: u32) -> Result<Form, CallFault>
-    ensures { Gives fault_told (λ f. f) result (lists.form_of number) }
+    ensures { ResultIs model_of_fault (λ f. f) result (lists.form_of number) }
 {
     match number {
         0 => Ok(Form::Table),
@@ -262,8 +270,12 @@ fn form_of(number: u32) -> Result<Form, CallFault>
 
 /// The text that is wanted, of those but paths.
 #[tactic(auto, unfolding(crate::specs::Lists::listed))]
-pub fn list(alloc: Global, loaded: &LoadedPolicy, call: &Call<'_>) -> Result<Found, CallFault>
-    ensures { Gives fault_told told result (lists.listed loaded.now call.now) }
+pub fn list(
+    alloc: Global,
+    loaded: &LoadedPolicy,
+    call: &Call<'_>,
+) -> Result<NumberedText, CallFault>
+    ensures { ResultIs model_of_fault told result (lists.listed loaded.now call.now) }
 {
     let form = form_of(call.form)?;
     match call.wants {

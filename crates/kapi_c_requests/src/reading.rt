@@ -1,8 +1,8 @@
 //! What is passed, read as a question.
 ghost use Rattle.std.specs.Prelude.{◌≡◌, ◌==◌, ◌++◌, ◌∷◌, [], OnOk};
 ghost use Rattle.std.specs.List.{after_first, before_first};
-ghost use Rattle.kapi_text.specs.Gives.{Gives};
-ghost use Rattle.kapi_c_requests.specs.Faults.{fault_told};
+ghost use Rattle.kapi_text.specs.ResultIs.{ResultIs};
+ghost use Rattle.kapi_c_requests.specs.Faults.{model_of_fault};
 ghost use Rattle.kapi_c_requests.specs.Questions.{are_plain as plain_parts, has_slash as slash_in, identity_of, path_point as point_of_path, question_of, resource_of as point_of, resource_point as point_of_resource, text_of, texts_of};
 
 use crate::fault::CallFault;
@@ -24,7 +24,7 @@ pub struct AccessQuestion {
 /// The text that bytes are.
 #[tactic(auto, unfolding(crate::specs::Questions::text_of))]
 pub fn text_in(bytes: &[u8]) -> Result<&str, CallFault>
-    ensures { Gives fault_told (λ s. s.now) result (text_of bytes.now) }
+    ensures { ResultIs model_of_fault (λ s. s.now) result (text_of bytes.now) }
 {
     match as_text(bytes) {
         Some(text) => Ok(text),
@@ -34,7 +34,7 @@ pub fn text_in(bytes: &[u8]) -> Result<&str, CallFault>
 
 /// The text that bytes are, to keep.
 pub fn read_text(alloc: Global, bytes: &[u8]) -> Result<Text, CallFault>
-    ensures { Gives fault_told (λ t. t) result (text_of bytes.now) }
+    ensures { ResultIs model_of_fault (λ t. t) result (text_of bytes.now) }
 {
     let text = text_in(bytes)?;
     Ok(Text::copy_of(alloc, text)?)
@@ -49,7 +49,7 @@ fn push(texts: &mut Vec<Text>, text: Text) -> Result<(), Memory>
 
 /// The texts that all of them are, to keep.
 pub fn read_texts(alloc: Global, passed: &[PassedText<'_>]) -> Result<Sequence<Text>, CallFault>
-    ensures { Gives fault_told (λ t. t) result (texts_of passed.now) }
+    ensures { ResultIs model_of_fault (λ t. t) result (texts_of passed.now) }
 {
     let mut texts = Vec::with_capacity(alloc, passed.len())?;
     for text in passed {
@@ -82,7 +82,7 @@ fn split_at_slash(text: &str) -> (&str, &str)
 /// The user and the groups, with nothing added.
 #[tactic(auto, unfolding(crate::specs::Questions::identity_of))]
 pub fn read_identity(alloc: Global, passed: &CQuestion<'_>) -> Result<Identity, CallFault>
-    ensures { Gives fault_told (λ i. i) result (identity_of passed.now) }
+    ensures { ResultIs model_of_fault (λ i. i) result (identity_of passed.now) }
 {
     Ok(Identity {
         user: read_text(alloc, passed.user)?,
@@ -93,7 +93,7 @@ pub fn read_identity(alloc: Global, passed: &CQuestion<'_>) -> Result<Identity, 
 /// The point of a path.
 #[tactic(auto, unfolding(crate::specs::Questions::path_point))]
 fn path_point(alloc: Global, passed: &CQuestion<'_>) -> Result<Point, CallFault>
-    ensures { Gives fault_told (λ p. p) result (point_of_path passed.now) }
+    ensures { ResultIs model_of_fault (λ p. p) result (point_of_path passed.now) }
 {
     Ok(Point::Url(UrlPoint {
         verb: read_text(alloc, passed.verb)?,
@@ -110,7 +110,7 @@ fn resource_of(
     subresource: &str,
     name: Text,
 ) -> Result<Point, CallFault>
-    ensures { Gives fault_told (λ p. p) result (point_of verb group resource.now subresource.now name) }
+    ensures { ResultIs model_of_fault (λ p. p) result (point_of verb group resource.now subresource.now name) }
 {
     if !are_plain(resource, subresource) {
         return Err(CallFault::Question);
@@ -142,7 +142,7 @@ fn are_plain(resource: &str, subresource: &str) -> bool
 /// The point of a resource.
 #[tactic(auto, unfolding(crate::specs::Questions::resource_point))]
 fn resource_point(alloc: Global, passed: &CQuestion<'_>) -> Result<Point, CallFault>
-    ensures { Gives fault_told (λ p. p) result (point_of_resource passed.now) }
+    ensures { ResultIs model_of_fault (λ p. p) result (point_of_resource passed.now) }
 {
     let verb = read_text(alloc, passed.verb)?;
     let group = read_text(alloc, passed.group)?;
@@ -158,7 +158,7 @@ fn resource_point(alloc: Global, passed: &CQuestion<'_>) -> Result<Point, CallFa
 /// `Text` if a text is no UTF-8, `Question` if a review refuses the resource, `Memory` if memory runs out.
 #[tactic(auto, unfolding(crate::specs::Questions::question_of))]
 pub fn read_question(alloc: Global, passed: &CQuestion<'_>) -> Result<AccessQuestion, CallFault>
-    ensures { Gives fault_told (λ q. q) result (question_of passed.now) }
+    ensures { ResultIs model_of_fault (λ q. q) result (question_of passed.now) }
 {
     let identity = read_identity(alloc, passed)?;
     if !passed.path.is_empty() {

@@ -1,6 +1,6 @@
 -- Answers about the policies of files.
 use Rattle.std.specs.Prelude.{◌≡◌, ℕ, ◌==◌, not, Bool, List, ◌++◌, length, Option, Some, None, Result, Ok, Err}
-use Rattle.kapi_text.specs.Gives.{◌>>=◌}
+use Rattle.kapi_text.specs.ResultIs.{◌>>=◌}
 use Rattle.kapi_lines.specs.Lines.{lines_of}
 use Rattle.kapi_loading.specs.Faults.{FileFault, bad_line}
 use Rattle.kapi_engine.specs.LoadedPolicies.{loaded_of}
@@ -14,7 +14,7 @@ use Rattle.kapi_access.specs.Lines.{LineError, answered_lines, no_question}
 use Rattle.kapi_access.specs.Rights.{what_text}
 use Rattle.kapi_lines.specs.declared.form.Form.{Form}
 use Rattle.kapi_access.specs.declared.answer.Shown.{Shown}
-use Rattle.kapi_access.specs.declared.question.Wanted.{Wanted}
+use Rattle.kapi_access.specs.declared.question.ScopedPoint.{ScopedPoint}
 use Rattle.kapi_access.specs.declared.rights.Holder.{Holder}
 use Rattle.kapi_command_line.specs.declared.program.PathsWords.{PathsWords}
 use Rattle.kapi_commands.specs.declared.policies.Answered.{Answered}
@@ -33,11 +33,11 @@ pub data FilesError : Type 0 where
   question_line : ℕ → FilesError
 
 -- the line that a fault reports: nothing if it is out of memory
-abbrev pub fault_told : FilesFault → Option FilesError
-fault_told (fault.First n) = Some (first_line n)
-fault_told (fault.Second n) = Some (second_line n)
-fault_told (fault.Question n) = Some (question_line n)
-fault_told fault.Memory = None
+abbrev pub model_of_fault : FilesFault → Option FilesError
+model_of_fault (fault.First n) = Some (first_line n)
+model_of_fault (fault.Second n) = Some (second_line n)
+model_of_fault (fault.Question n) = Some (question_line n)
+model_of_fault fault.Memory = None
 
 -- the fault if the first policy is not loaded
 abbrev pub first_fault : StartError → FilesFault
@@ -111,11 +111,11 @@ abbrev pub answered_told : Answered → Reply
 answered_told a = record { text = a.text.items; settled = a.settled }
 
 -- who may do what is asked, by a policy
-abbrev pub who_on : Form → Wanted → LoadedPolicy → Reply
+abbrev pub who_on : Form → ScopedPoint → LoadedPolicy → Reply
 who_on f w e = record { text = who_text f e.policy w; settled = e.settled }
 
 -- who may do what is asked, by the policy in a file
-unfoldable pub who_wanted : Form → List ℕ → Wanted → Result Reply FilesError
+unfoldable pub who_wanted : Form → List ℕ → ScopedPoint → Result Reply FilesError
 who_wanted f objects w = as_first (loaded_of objects) >>= λ e. Ok (who_on f w e)
 
 -- the line that is no question

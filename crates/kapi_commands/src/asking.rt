@@ -4,7 +4,7 @@ use crate::policies::{
     Answered, Compared, FilesFault, compare_files, paths_file, risks_file, what_file, who_file,
     who_wanted,
 };
-use kapi_access::{Form, Holder, Identities, Scope, Shown, asked_as, question_of};
+use kapi_access::{Form, Holder, Identities, Scope, Shown, question_of, with_default_groups};
 use kapi_command_line::{
     Asking, CompareWords, PathsWords, WhatWords, WhoQuestion, WhoWanted, WhoWords,
 };
@@ -216,7 +216,7 @@ fn holder_of(alloc: Global, words: &WhatWords) -> Result<Holder, Memory> {
         Some(Text::copy_of(alloc, namespace)?)
     };
     Ok(Holder {
-        identity: asked_as(alloc, words.user.as_str(), words.groups.as_slice())?,
+        identity: with_default_groups(alloc, words.user.as_str(), words.groups.as_slice())?,
         within,
     })
 }

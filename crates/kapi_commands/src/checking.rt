@@ -29,7 +29,7 @@ struct Finding {
 
 /// What the objects of a policy are checked against.
 #[derive(Drop)]
-struct Looks<'a> {
+struct PolicyFacts<'a> {
     policy: &'a IndexedPolicy,
     bindings: &'a [Binding<'a>],
     /// The index of each binding by its kind and place.
@@ -135,7 +135,7 @@ fn findings(
     table: &[ResourceRow],
 ) -> Result<Vec<Finding>, Memory> {
     let bindings = policy.bindings()?;
-    let looks = Looks {
+    let looks = PolicyFacts {
         policy,
         bindings: bindings.as_slice(),
         places: places_of(alloc, bindings.as_slice())?,
@@ -158,7 +158,7 @@ fn findings(
 
 fn look_at(
     alloc: Global,
-    looks: &Looks<'_>,
+    looks: &PolicyFacts<'_>,
     origin: Origin,
     object: &Value,
     found: &mut Vec<Finding>,
@@ -204,7 +204,7 @@ fn places_of(alloc: Global, bindings: &[Binding<'_>]) -> Result<BTreeMap<Text, u
 
 fn look_at_binding(
     alloc: Global,
-    looks: &Looks<'_>,
+    looks: &PolicyFacts<'_>,
     named: Named<'_>,
     origin: Origin,
     found: &mut Vec<Finding>,
@@ -253,7 +253,7 @@ pub fn binding_kind(kind: BindingKind) -> &'static str {
 
 fn look_at_role(
     alloc: Global,
-    looks: &Looks<'_>,
+    looks: &PolicyFacts<'_>,
     kind: RoleKind,
     named: Named<'_>,
     fed: bool,

@@ -1,16 +1,17 @@
 //! Answers about the policies of files.
 ghost use Rattle.std.specs.Prelude.{◌≡◌, Result, IfOk};
-ghost use Rattle.kapi_text.specs.Gives.{Gives};
+ghost use Rattle.kapi_text.specs.ResultIs.{ResultIs};
 ghost use Rattle.kapi_loading.specs.Faults as loading;
 ghost use Rattle.kapi_loading.specs.Faults.{FileFault};
 ghost use Rattle.kapi_engine.specs.LoadedPolicies.{loaded_of};
 ghost use Rattle.kapi_engine.specs.declared.loaded_policy.LoadedPolicy.{LoadedPolicy as ALoadedPolicy};
 ghost use Rattle.kapi_commands.specs.Policies as files;
-ghost use Rattle.kapi_commands.specs.Policies.{answered_told, as_first, compared_to, compared_told, comparison, fault_told};
+ghost use Rattle.kapi_commands.specs.Policies.{answered_told, as_first, compared_to, compared_told, comparison, model_of_fault};
 
 use kapi_command_line::PathsWords;
 use kapi_engine::{
-    Form, Holder, Identities, LineFault, LoadedPolicy, Shown, StartError, Wanted, compare, load,
+    Form, Holder, Identities, LineFault, LoadedPolicy, ScopedPoint, Shown, StartError, compare,
+    load,
 };
 use kapi_text::Memory;
 use std::alloc::Global;
@@ -81,7 +82,7 @@ fn second_fault(error: StartError) -> FilesFault
 /// # Errors
 /// `First` at the first line that is not loaded, `Memory` if an allocation fails.
 pub fn load_first(alloc: Global, objects: &[u8]) -> Result<LoadedPolicy, FilesFault>
-    ensures { Gives fault_told (λ e. e) result (as_first (loaded_of objects.now)) }
+    ensures { ResultIs model_of_fault (λ e. e) result (as_first (loaded_of objects.now)) }
 {
     match load(alloc, objects) {
         Ok(loaded) => Ok(loaded),
@@ -101,16 +102,16 @@ fn load_both<R: Threads + Sync>(
     Result<LoadedPolicy, StartError>,
     Result<LoadedPolicy, StartError>,
 )
-    ensures before { Gives loading.fault_told (λ e. e) result.0 (loaded_of before.now) }
-    ensures after { Gives loading.fault_told (λ e. e) result.1 (loaded_of after.now) }
+    ensures before { ResultIs loading.model_of_fault (λ e. e) result.0 (loaded_of before.now) }
+    ensures after { ResultIs loading.model_of_fault (λ e. e) result.1 (loaded_of after.now) }
 {
     thread::join(
         rt,
         move || -> Result<LoadedPolicy, StartError>
-            ensures { Gives loading.fault_told (λ e. e) result (loaded_of before.entry.now) }
+            ensures { ResultIs loading.model_of_fault (λ e. e) result (loaded_of before.entry.now) }
         { load(alloc, before) },
         move || -> Result<LoadedPolicy, StartError>
-            ensures { Gives loading.fault_told (λ e. e) result (loaded_of after.entry.now) }
+            ensures { ResultIs loading.model_of_fault (λ e. e) result (loaded_of after.entry.now) }
         { load(alloc, after) },
     )
 }
@@ -144,8 +145,8 @@ fn compare_with(
     before: &LoadedPolicy,
     after: Result<LoadedPolicy, StartError>,
 ) -> Result<Compared, FilesFault>
-    ensures { (given : Result ALoadedPolicy FileFault) → Gives loading.fault_told (λ e. e) after given
-        → Gives fault_told compared_told result (compared_to form shown identities before.now given) }
+    ensures { (given : Result ALoadedPolicy FileFault) → ResultIs loading.model_of_fault (λ e. e) after given
+        → ResultIs model_of_fault compared_told result (compared_to form shown identities before.now given) }
 {
     match after {
         Ok(after) => Ok(compare_policies(alloc, form, shown, identities, before, &after)?),
@@ -166,7 +167,7 @@ pub fn compare_files<R: Threads + Sync>(
     before: &[u8],
     after: &[u8],
 ) -> Result<Compared, FilesFault>
-    ensures { Gives fault_told compared_told result (files.compare_files form shown identities before.now after.now) }
+    ensures { ResultIs model_of_fault compared_told result (files.compare_files form shown identities before.now after.now) }
 {
     let (before, after) = load_both(alloc, rt, before, after);
     match before {
@@ -185,9 +186,9 @@ pub fn who_wanted(
     alloc: Global,
     form: Form,
     objects: &[u8],
-    wanted: &Wanted,
+    wanted: &ScopedPoint,
 ) -> Result<Answered, FilesFault>
-    ensures { Gives fault_told answered_told result (files.who_wanted form objects.now wanted.now) }
+    ensures { ResultIs model_of_fault answered_told result (files.who_wanted form objects.now wanted.now) }
 {
     let loaded = load_first(alloc, objects)?;
     let text = loaded.who(alloc, form, wanted)?;
@@ -214,7 +215,7 @@ fn who_lines(
     loaded: &LoadedPolicy,
     questions: &[u8],
 ) -> Result<Answered, FilesFault>
-    ensures { Gives fault_told answered_told result (files.lines_on form questions.now loaded.now) }
+    ensures { ResultIs model_of_fault answered_told result (files.lines_on form questions.now loaded.now) }
 {
     match loaded.who_lines(alloc, form, questions) {
         Ok(text) => Ok(Answered {
@@ -236,7 +237,7 @@ pub fn who_file(
     objects: &[u8],
     questions: &[u8],
 ) -> Result<Answered, FilesFault>
-    ensures { Gives fault_told answered_told result (files.who_file form objects.now questions.now) }
+    ensures { ResultIs model_of_fault answered_told result (files.who_file form objects.now questions.now) }
 {
     let loaded = load_first(alloc, objects)?;
     who_lines(alloc, form, &loaded, questions)
@@ -254,7 +255,7 @@ pub fn what_file(
     objects: &[u8],
     holder: &Holder,
 ) -> Result<Answered, FilesFault>
-    ensures { Gives fault_told answered_told result (files.what_file form objects.now holder.now) }
+    ensures { ResultIs model_of_fault answered_told result (files.what_file form objects.now holder.now) }
 {
     let loaded = load_first(alloc, objects)?;
     let text = loaded.what(alloc, form, holder)?;
@@ -269,7 +270,7 @@ pub fn what_file(
 /// # Errors
 /// `First` at the first line that is not loaded, `Memory` if an allocation fails.
 pub fn risks_file(alloc: Global, form: Form, objects: &[u8]) -> Result<Answered, FilesFault>
-    ensures { Gives fault_told answered_told result (files.risks_file form objects.now) }
+    ensures { ResultIs model_of_fault answered_told result (files.risks_file form objects.now) }
 {
     let loaded = load_first(alloc, objects)?;
     let text = loaded.risks(alloc, form)?;
@@ -286,7 +287,7 @@ pub fn risks_file(alloc: Global, form: Form, objects: &[u8]) -> Result<Answered,
 /// # Errors
 /// `First` at the first line that is not loaded, `Memory` if an allocation fails.
 pub fn paths_file(alloc: Global, words: &PathsWords, objects: &[u8]) -> Result<Answered, FilesFault>
-    ensures settled { Gives fault_told (λ a. a.settled) result (files.settled_file objects.now) }
+    ensures settled { ResultIs model_of_fault (λ a. a.settled) result (files.settled_file objects.now) }
     ensures text { IfOk result (λ a. files.ArePaths words.now objects.now a.text.items) }
 {
     let loaded = load_first(alloc, objects)?;

@@ -2,10 +2,10 @@
 use Rattle.std.proofs.Common.{◌≡◌, ℕ, Bool, true, false, not, ◌==◌, if◌then◌else◌, List, Option, Some, None, Result, Ok, Err, map, length, refl, sym, ap, ◌∙◌, subst, codes, []}
 use Rattle.std.specs.List.{filter}
 use Rattle.serde_json.specs.Data.{Data, no_members, object}
-use Rattle.kapi_text.specs.Gives.{◌>>=◌}
+use Rattle.kapi_text.specs.ResultIs.{◌>>=◌}
 use Rattle.kapi_object.specs.Tree.{in_metadata}
-use Rattle.kapi_guard.specs.Impersonation.{denied, effective, impersonated, is_denied, questions}
-use Rattle.kapi_guard.specs.declared.questions.Question.{Question}
+use Rattle.kapi_escalation.specs.Impersonation.{denied, effective, impersonated, is_denied, questions}
+use Rattle.kapi_escalation.specs.declared.questions.Question.{Question}
 use Rattle.kapi_http.specs.declared.message.HttpFault.{HttpFault}
 use Rattle.kapi_http.specs.declared.message.HttpRequest.{HttpRequest}
 use Rattle.kapi_http.specs.declared.message.StatusCode.TheVariants as status
@@ -26,7 +26,7 @@ use Rattle.kapi_store.specs.Listing.{is_listed, is_within, listed_trees}
 use Rattle.kapi_store.specs.Plain.{Plain}
 use Rattle.kapi_store.specs.declared.key.Key.{Key}
 use Rattle.kapi_watch.specs.Watches.{startable, started_at, watch_from}
-use Rattle.kapi_watch.specs.declared.scope.Scope.{Scope}
+use Rattle.kapi_watch.specs.declared.scope.WatchScope.{WatchScope}
 use Rattle.kapi_answer.specs.Answer.{Plan, answer, answer_as, answer_asked, answer_by, carried_out, checked, planned, planned_at, planned_creation, planned_for, planned_on, task, tells, told_well, watch}
 use Rattle.kapi_answer.specs.Authorization.{authorized, is_authorized}
 use Rattle.kapi_answer.specs.Collection.{list_of, listed}
@@ -164,7 +164,7 @@ module _ (who : Identity) (objects other : PolicyObjects) (s t : Plain) (sees : 
     abbrev list_plan : List (Key × Data) → ℕ → Result Plan Refused
     list_plan entries revision = tells (told status.Ok (list_of r.row entries revision))
 
-    abbrev scope : Scope
+    abbrev scope : WatchScope
     scope = record { row = r.row; namespace = namespace; selector = f.selector; name = f.name }
 
     abbrev watch_plan : List (Key × Data) → ℕ → Result Plan Refused

@@ -1,6 +1,6 @@
 -- What holds of the results of checks in a row.
 use Rattle.std.proofs.Common.{◌≡◌, ℕ, List, Result, Ok, Err, refl, ap, subst, IfOk}
-use Rattle.kapi_text.specs.Gives.{◌>>=◌}
+use Rattle.kapi_text.specs.ResultIs.{◌>>=◌}
 use Rattle.kapi_store.specs.Faults.{StoreFault}
 use Rattle.kapi_answer.specs.Create.{stored}
 

@@ -11,12 +11,12 @@ use Rattle.kapi_store.specs.Plain.{Plain, PlainChange}
 use Rattle.kapi_store.specs.declared.key.Key.{Key}
 use Rattle.kapi_watch.specs.Shown.{Added, Deleted, Expired, Modified, Refused, Shown, selected, shown_by, shown_of}
 use Rattle.kapi_watch.specs.Watches.{due, is_expired, later, pumped, shown_all}
-use Rattle.kapi_watch.specs.declared.scope.Scope.{Scope}
+use Rattle.kapi_watch.specs.declared.scope.WatchScope.{WatchScope}
 use Rattle.kapi_answer.specs.Watch.{PlainWatching, event_reply_of, rechecked}
 use Rattle.kapi_confidential.proofs.Filters.{filters_swap}
 use Rattle.kapi_confidential.specs.Alike.{WatchesAlike, changes_for, next_event}
 
-module _ (scope : Scope) where
+module _ (scope : WatchScope) where
   abbrev is_in : PlainChange → Bool
   is_in c = is_within scope.row scope.namespace scope.name c.key
 

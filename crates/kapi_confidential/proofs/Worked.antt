@@ -26,8 +26,8 @@ use Rattle.kapi_reply.specs.declared.refusal.Refusal.TheVariants as refusal
 use Rattle.kapi_request_info.specs.declared.attributes.Attributes.{Attributes}
 use Rattle.kapi_store.specs.Keys.{is_key}
 use Rattle.kapi_store.specs.Plain.{free_place, has_namespace, has_object, is_full_namespace}
-use Rattle.kapi_guard.specs.Kind.{policy_kind}
-use Rattle.kapi_guard.specs.Reading.{collected, policy_objects}
+use Rattle.kapi_escalation.specs.Kind.{policy_kind}
+use Rattle.kapi_escalation.specs.Reading.{collected, policy_objects}
 use Rattle.kapi_answer.specs.Authorization.{is_authorized}
 use Rattle.kapi_answer.specs.Create.{key_at, namespace_on}
 use Rattle.kapi_answer.specs.Route.{ResourceRouted, Routed, action_at, health, is_row_of, on_row, place_on, resource, routed}

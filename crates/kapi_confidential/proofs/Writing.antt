@@ -3,7 +3,7 @@ use Rattle.std.proofs.Common.{◌≡◌, ℕ, ◌+◌, Bool, true, false, ◌&&�
 use Rattle.std.specs.List.{AllByRecursion, list_all, list_any}
 use Rattle.std.specs.Map.{lookup}
 use Rattle.serde_json.specs.Data.{Data}
-use Rattle.kapi_text.specs.Gives.{◌>>=◌}
+use Rattle.kapi_text.specs.ResultIs.{◌>>=◌}
 use Rattle.kapi_object.specs.Admission.{read_as}
 use Rattle.kapi_object.specs.Merge.{merged}
 use Rattle.kapi_http.specs.declared.message.HttpFault.{HttpFault}
@@ -14,15 +14,15 @@ use Rattle.kapi_model.specs.declared.row.ResourceRow.{ResourceRow}
 use Rattle.kapi_policy.specs.Decided.{held}
 use Rattle.kapi_policy.specs.Laws.{is_allowed}
 use Rattle.kapi_policy.specs.Objects.{PolicyObjects}
-use Rattle.kapi_guard.specs.Checks.{Fault, all_held, checked, role_ref_changed, rules_held}
-use Rattle.kapi_guard.specs.Exempt.{exemption, is_exempt}
-use Rattle.kapi_guard.specs.Kind.{policy_kind}
-use Rattle.kapi_guard.specs.Laws.{write_of}
-use Rattle.kapi_guard.specs.Writes.{keeps_role, scope, wanted}
-use Rattle.kapi_guard.specs.Written.{written_at}
-use Rattle.kapi_guard.specs.declared.kind.PolicyKind.{PolicyKind}
-use Rattle.kapi_guard.specs.declared.write.PolicyWrite.{PolicyWrite}
-use Rattle.kapi_guard.specs.declared.write.WrittenObject.{WrittenObject}
+use Rattle.kapi_escalation.specs.Checks.{Fault, all_held, checked, role_ref_changed, rules_held}
+use Rattle.kapi_escalation.specs.Exempt.{exemption, is_exempt}
+use Rattle.kapi_escalation.specs.Kind.{policy_kind}
+use Rattle.kapi_escalation.specs.Laws.{write_of}
+use Rattle.kapi_escalation.specs.Writes.{keeps_role, scope, wanted}
+use Rattle.kapi_escalation.specs.Written.{written_at}
+use Rattle.kapi_escalation.specs.declared.kind.PolicyKind.{PolicyKind}
+use Rattle.kapi_escalation.specs.declared.write.PolicyWrite.{PolicyWrite}
+use Rattle.kapi_escalation.specs.declared.write.WrittenObject.{WrittenObject}
 use Rattle.kapi_reply.specs.declared.refusal.Refused.{Refused}
 use Rattle.kapi_request_info.specs.declared.attributes.Attributes.{Attributes}
 use Rattle.kapi_reviews.specs.declared.kind.ReviewKind.{ReviewKind}
@@ -46,7 +46,7 @@ use Rattle.kapi_answer.specs.Update.{in_name, patch_of, replaces, to_patch, to_r
 use Rattle.kapi_answer.specs.declared.query.Filter.{Filter}
 use Rattle.kapi_answer.specs.declared.route.Action.{Action}
 use Rattle.kapi_answer.specs.declared.route.Action.TheVariants as action
-use Rattle.kapi_answer.specs.declared.route.Part.{Part}
+use Rattle.kapi_answer.specs.declared.route.ObjectPart.{ObjectPart}
 use Rattle.kapi_confidential.proofs.Collections.{keys_within, lookup_within, namespaces_stay}
 use Rattle.kapi_confidential.proofs.Reading.{ComeAlike, answer_alike, checked_alike, chosen_alike, fault_alike, own_review_alike, read_alike, then_alike}
 use Rattle.kapi_confidential.proofs.Results.{bind_holds, returned, stored_ok}
@@ -96,17 +96,17 @@ IsAt k new = k ≡ new.0
 abbrev IsFreeIn : Plain → ResourceRow → List ℕ → Key × Data → Type 0
 IsFreeIn s row namespace new = (name : List ℕ) × ((key_of row namespace name ≡ new.0) × (free_place s (key_of row namespace name) ≡ Ok tt))
 
-replaced_at : (s : Plain) (row : ResourceRow) (of : Part) (k : Key) (body : Admitted) → IfOk (to_replace s row of k body) (IsAt k)
+replaced_at : (s : Plain) (row : ResourceRow) (of : ObjectPart) (k : Key) (body : Admitted) → IfOk (to_replace s row of k body) (IsAt k)
 unfolding to_replace
 replaced_at s row of k body =
     bind_holds (in_name k.name body.given.name) _ (IsAt k) (λ _ _. bind_holds (in_namespace k.namespace k.name body.given.namespace) _ (IsAt k)
     (λ _ _. bind_holds (stored k.name (replaceable s k body.given.resource_version)) _ (IsAt k) (λ old _. bind_holds (valid k.name body.object) _ (IsAt k) (λ tree _. refl))))
 
-updated_at : (s : Plain) (row : ResourceRow) (of : Part) (k : Key) (bytes : List ℕ) → IfOk (to_update s row of k bytes) (IsAt k)
+updated_at : (s : Plain) (row : ResourceRow) (of : ObjectPart) (k : Key) (bytes : List ℕ) → IfOk (to_update s row of k bytes) (IsAt k)
 unfolding to_update
 updated_at s row of k bytes = bind_holds (admitted row bytes) _ (IsAt k) (λ body _. replaced_at s row of k body)
 
-patched_at : (s : Plain) (row : ResourceRow) (of : Part) (k : Key) (bytes : List ℕ) → IfOk (to_patch s row of k bytes) (IsAt k)
+patched_at : (s : Plain) (row : ResourceRow) (of : ObjectPart) (k : Key) (bytes : List ℕ) → IfOk (to_patch s row of k bytes) (IsAt k)
 unfolding to_patch
 patched_at s row of k bytes =
     bind_holds (patch_of bytes) _ (IsAt k) (λ patch _. bind_holds (existing s k) _ (IsAt k)
@@ -131,11 +131,11 @@ module _ (s t : Plain) where
   abbrev GoesAlike : Key → Type 0
   GoesAlike k = StandsAlike k × (is_full_namespace t k ≡ is_full_namespace s k)
 
-  update_alike : (row : ResourceRow) (of : Part) (k : Key) (bytes : List ℕ) → StandsAlike k → to_update s row of k bytes ≡ to_update t row of k bytes
+  update_alike : (row : ResourceRow) (of : ObjectPart) (k : Key) (bytes : List ℕ) → StandsAlike k → to_update s row of k bytes ≡ to_update t row of k bytes
   unfolding to_update to_replace
   update_alike row of k bytes same = rw same refl
 
-  patch_alike : (row : ResourceRow) (of : Part) (k : Key) (bytes : List ℕ) → StandsAlike k → to_patch s row of k bytes ≡ to_patch t row of k bytes
+  patch_alike : (row : ResourceRow) (of : ObjectPart) (k : Key) (bytes : List ℕ) → StandsAlike k → to_patch s row of k bytes ≡ to_patch t row of k bytes
   unfolding to_patch to_replace
   patch_alike row of k bytes same = rw same refl
 

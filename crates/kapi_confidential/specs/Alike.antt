@@ -19,7 +19,7 @@ use Rattle.kapi_store.specs.Listing.{is_within}
 use Rattle.kapi_store.specs.Plain.{Plain, PlainChange}
 use Rattle.kapi_store.specs.declared.key.Key.{Key}
 use Rattle.kapi_watch.specs.Watches.{pumped}
-use Rattle.kapi_watch.specs.declared.scope.Scope.{Scope}
+use Rattle.kapi_watch.specs.declared.scope.WatchScope.{WatchScope}
 use Rattle.kapi_answer.specs.Answer.{answer}
 use Rattle.kapi_answer.specs.Authorization.{is_authorized}
 use Rattle.kapi_answer.specs.Create.{key_at, namespace_on}
@@ -103,7 +103,7 @@ AnswersAlike caller item objects other s t = answer objects s caller item ≡ an
 -- ---- watches
 
 -- the changes of the objects that a watch ranges over
-abbrev pub changes_for : Scope → List PlainChange → List PlainChange
+abbrev pub changes_for : WatchScope → List PlainChange → List PlainChange
 changes_for scope history = filter (λ c. is_within scope.row scope.namespace scope.name c.key) history
 
 -- a watch cannot tell two states and their histories apart: its identity is allowed the same, the revisions are the same, and so

@@ -13,13 +13,13 @@ use Rattle.kapi_request_info.specs.declared.attributes.Attributes.{Attributes}
 use Rattle.kapi_store.specs.Keys.{is_key}
 use Rattle.kapi_store.specs.Plain.{Plain, free_place, is_full_namespace}
 use Rattle.kapi_store.specs.declared.key.Key.{Key}
-use Rattle.kapi_guard.specs.Exempt.{is_exempt}
-use Rattle.kapi_guard.specs.Kind.{policy_kind}
-use Rattle.kapi_guard.specs.Laws.{write_of}
-use Rattle.kapi_guard.specs.Writes.{keeps_role, wanted}
-use Rattle.kapi_guard.specs.Written.{written_at}
-use Rattle.kapi_guard.specs.declared.kind.PolicyKind.{PolicyKind}
-use Rattle.kapi_guard.specs.declared.write.PolicyWrite.{PolicyWrite}
+use Rattle.kapi_escalation.specs.Exempt.{is_exempt}
+use Rattle.kapi_escalation.specs.Kind.{policy_kind}
+use Rattle.kapi_escalation.specs.Laws.{write_of}
+use Rattle.kapi_escalation.specs.Writes.{keeps_role, wanted}
+use Rattle.kapi_escalation.specs.Written.{written_at}
+use Rattle.kapi_escalation.specs.declared.kind.PolicyKind.{PolicyKind}
+use Rattle.kapi_escalation.specs.declared.write.PolicyWrite.{PolicyWrite}
 use Rattle.kapi_reviews.specs.declared.kind.ReviewKind.{ReviewKind}
 use Rattle.kapi_reviews.specs.declared.kind.ReviewKind.TheVariants as kind
 use Rattle.kapi_answer.specs.Create.{key_at, namespace_on}

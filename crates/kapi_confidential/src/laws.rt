@@ -6,7 +6,7 @@ ghost use Rattle.kapi_answer.specs.Watch.{PlainWatching};
 ghost use Rattle.kapi_confidential.specs.Alike.{AnswersAlike, DecidesAlike, ReadsOnly, SeesAlike, WatchesAlike, next_event};
 ghost use Rattle.kapi_confidential.specs.Worked.{eve, secret, with_secret, without_secret};
 ghost use Rattle.kapi_confidential.specs.Writes.{AsksOfNoOther, WritesAlike};
-ghost use Rattle.kapi_guard.specs.Reading.{policy_objects};
+ghost use Rattle.kapi_escalation.specs.Reading.{policy_objects};
 ghost use Rattle.kapi_http.specs.declared.message.HttpFault.{HttpFault};
 ghost use Rattle.kapi_http.specs.declared.message.HttpRequest.{HttpRequest};
 ghost use Rattle.kapi_model.specs.declared.identity.Identity.{Identity};

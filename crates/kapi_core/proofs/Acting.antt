@@ -7,8 +7,8 @@ use Rattle.std.specs.Ordering.{nat_cmp}
 use Rattle.std.specs.declared.cmp.Ordering.TheVariants.{Equal}
 use Rattle.kapi_model.specs.declared.identity.Identity.{Identity}
 use Rattle.kapi_aggregation.specs.Turns.{next}
-use Rattle.kapi_gains.proofs.Elements.{has_either}
-use Rattle.kapi_gains.proofs.Entries.{delete_has, found_in, put_has}
+use Rattle.kapi_escalation_laws.proofs.Elements.{has_either}
+use Rattle.kapi_escalation_laws.proofs.Entries.{delete_has, found_in, put_has}
 use Rattle.kapi_aggregation.specs.Members.{Has}
 use Rattle.kapi_core.proofs.Effects.{Moves, effect, number_of}
 use Rattle.kapi_core.proofs.Effects as effects

@@ -12,17 +12,17 @@ use Rattle.kapi_store.specs.Changes.{placed_all}
 use Rattle.kapi_store.specs.Faults.{StoreFault}
 use Rattle.kapi_store.specs.Plain.{Plain, PlainChange, creation, trees_left_by, written}
 use Rattle.kapi_store.specs.declared.key.Key.{Key}
-use Rattle.kapi_guard.proofs.Writes.{placed_all_keeps, stands_in_order}
+use Rattle.kapi_escalation.proofs.Writes.{placed_all_keeps, stands_in_order}
 use Rattle.kapi_aggregation.specs.Roles.{Labelled, roles_in}
 use Rattle.kapi_answer.proofs.Granted.{answers_are_granted}
 use Rattle.kapi_answer.specs.Answer.{answer}
 use Rattle.kapi_answer.specs.Impersonation.{AreGrantedAs}
-use Rattle.kapi_gains.proofs.Impersonating.{acts_as}
-use Rattle.kapi_gains.proofs.Reached.{objects_give_nothing, objects_never_grow, objects_stay_within, reaches_both, reaches_itself}
-use Rattle.kapi_gains.proofs.StoredTurns.{turn_runs}
-use Rattle.kapi_gains.proofs.StoredWrites.{granted_reach}
-use Rattle.kapi_gains.specs.Runs.{ObjectsReach}
-use Rattle.kapi_gains.specs.StoredStates.{AreInOrder, policy_state}
+use Rattle.kapi_escalation_laws.proofs.Impersonating.{acts_as}
+use Rattle.kapi_escalation_laws.proofs.Reached.{objects_give_nothing, objects_never_grow, objects_stay_within, reaches_both, reaches_itself}
+use Rattle.kapi_escalation_laws.proofs.StoredTurns.{turn_runs}
+use Rattle.kapi_escalation_laws.proofs.StoredWrites.{granted_reach}
+use Rattle.kapi_escalation_laws.specs.Runs.{ObjectsReach}
+use Rattle.kapi_escalation_laws.specs.StoredStates.{AreInOrder, policy_state}
 use Rattle.kapi_core.proofs.Effects.{FaultKind, Effect, effect}
 use Rattle.kapi_core.proofs.Effects as effects
 use Rattle.kapi_core.proofs.Runs.{Ran, events_made}

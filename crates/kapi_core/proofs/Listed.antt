@@ -7,14 +7,14 @@ use Rattle.kapi_watch.specs.Histories.{IsHistory}
 use Rattle.kapi_watch.specs.Lists.{all_on_top, list_at, list_now, listed}
 use Rattle.kapi_watch.specs.Runs.{HoldsOn, Step, history_after, shown_over, still_due, watch_after}
 use Rattle.kapi_watch.specs.Watches.{started_at, started_now}
-use Rattle.kapi_watch.specs.declared.scope.Scope.{Scope}
+use Rattle.kapi_watch.specs.declared.scope.WatchScope.{WatchScope}
 use Rattle.kapi_core.proofs.Histories.{HasHistory, events_go_on, events_grow, served_has}
 use Rattle.kapi_core.specs.Histories.{DueIsListed, FirstIsListed, FirstShownIsListed, ListedThen, ShownIsListed, list_of, served}
 use Rattle.kapi_core.specs.Machine.{Machine, after}
 use Rattle.kapi_core.specs.declared.event.Event.{Event}
 
 -- the list now of all its changes is what a machine lists
-now_is_listed : (first : ℕ) (m : Machine) (scope : Scope) → HasHistory first m → list_now scope m.changes ≡ list_of scope m
+now_is_listed : (first : ℕ) (m : Machine) (scope : WatchScope) → HasHistory first m → list_now scope m.changes ≡ list_of scope m
 now_is_listed first m scope h = ap (listed scope) (sym h.objects)
 
 -- a machine has its history from its own first revision on
@@ -43,10 +43,10 @@ module _ (m : Machine) (events : List Event) (h : HasHistory m.store.first m) wh
   grown_history : IsHistory m.store.first (m.changes ++ more)
   grown_history = let P : List PlainChange → Type 0 = IsHistory m.store.first in subst P grown goes.history
 
-  then_listed : (scope : Scope) → list_at scope m.store.revision n.changes ≡ list_of scope m
+  then_listed : (scope : WatchScope) → list_at scope m.store.revision n.changes ≡ list_of scope m
   then_listed scope = ap (list_at scope m.store.revision) grown ∙ counted_showed m.changes more m.store scope h.objects h.counted grown_history
 
-  first_listed : (scope : Scope) → all_on_top scope [] (still_due n.changes (started_now m.store scope)) ≡ list_of scope n
+  first_listed : (scope : WatchScope) → all_on_top scope [] (still_due n.changes (started_now m.store scope)) ≡ list_of scope n
   first_listed scope =
       let P : List PlainChange → Type 0 = λ cs. all_on_top scope [] (still_due cs (started_now m.store scope)) ≡ list_now scope cs in
       subst P (sym grown) (counted_first_is_the_list m.changes more m.store scope h.objects h.counted grown_history) ∙ now_is_listed m.store.first n scope goes
@@ -55,7 +55,7 @@ module _ (m : Machine) (events : List Event) (h : HasHistory m.store.first m) wh
     between_history : IsHistory m.store.first (history_after ts m.changes)
     between_history = let P : List PlainChange → Type 0 = IsHistory m.store.first in subst P (sym between) goes.history
 
-    shown_listed : (scope : Scope) (revision : ℕ) → HoldsOn ts m.changes m.store (started_at scope revision)
+    shown_listed : (scope : WatchScope) (revision : ℕ) → HoldsOn ts m.changes m.store (started_at scope revision)
         → still_due n.changes (watch_after ts m.changes m.store (started_at scope revision)) ≡ []
         → all_on_top scope (list_at scope revision n.changes) (shown_over ts m.changes m.store (started_at scope revision)) ≡ list_of scope n
     shown_listed scope revision holds none =
@@ -63,7 +63,7 @@ module _ (m : Machine) (events : List Event) (h : HasHistory m.store.first m) wh
         let Q : List PlainChange → Type 0 = λ cs. all_on_top scope (list_at scope revision cs) (shown_over ts m.changes m.store (started_at scope revision)) ≡ list_now scope cs in
         subst Q between (shown_rebuilds_list m.store.first ts m.changes m.store scope revision between_history holds (subst P (sym between) none)) ∙ now_is_listed m.store.first n scope goes
 
-    first_shown_listed : (scope : Scope) → HoldsOn ts m.changes m.store (started_now m.store scope)
+    first_shown_listed : (scope : WatchScope) → HoldsOn ts m.changes m.store (started_now m.store scope)
         → still_due n.changes (watch_after ts m.changes m.store (started_now m.store scope)) ≡ []
         → all_on_top scope [] (shown_over ts m.changes m.store (started_now m.store scope)) ≡ list_of scope n
     first_shown_listed scope holds none =

@@ -1,8 +1,8 @@
 -- The loading of an object, of the store and the policy and of the whole machine.
 use Rattle.std.proofs.Common.{◌≡◌, ℕ, List, Result, Ok, Err, subst, ◌∙◌}
 use Rattle.kapi_aggregation.specs.Marks.{Tracked}
-use Rattle.kapi_text.specs.Gives.{Fails}
-use Rattle.kapi_answer.specs.Load.{fault_told, loads}
+use Rattle.kapi_text.specs.ResultIs.{Fails}
+use Rattle.kapi_answer.specs.Load.{model_of_fault, loads}
 use Rattle.kapi_answer.specs.declared.loading.LoadError.{LoadError}
 use Rattle.kapi_policy.specs.Objects.{PolicyObjects}
 use Rattle.kapi_policy.specs.declared.change.PolicyChange.{PolicyChange}
@@ -34,7 +34,7 @@ loaded old t u ns text (Ok made) (changes, is, told, writes) = λ m h.
       },
     )
 loaded old t u ns text (Err e) (fails, same, kept, marks) = λ m h.
-    let P : Plain → Type 0 = λ p. Fails (fault_told e) (loads p text) in (
+    let P : Plain → Type 0 = λ p. Fails (model_of_fault e) (loads p text) in (
       subst P h.store.plain fails,
       record { store = same_stands _ _ same m.changes m.store h.store; policy_is = kept ∙ h.policy_is; covers = marks _ h.covers; next_id = h.next_id; rechecks = h.rechecks; links = h.links },
     )

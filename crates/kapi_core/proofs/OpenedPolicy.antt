@@ -18,15 +18,15 @@ use Rattle.kapi_policy.specs.Decided.{bindings_in, cluster_binding, given, held,
 use Rattle.kapi_policy.specs.Objects.{PolicyObjects}
 use Rattle.kapi_store.specs.Changes.{placed, placed_all}
 use Rattle.kapi_store.specs.UidAndVersion.{uid_of}
-use Rattle.kapi_guard.specs.Kind.{policy_kind}
-use Rattle.kapi_guard.specs.Reading.{collected, policy_objects}
-use Rattle.kapi_guard.specs.Exempt.{binding, escalating}
+use Rattle.kapi_escalation.specs.Kind.{policy_kind}
+use Rattle.kapi_escalation.specs.Reading.{collected, policy_objects}
+use Rattle.kapi_escalation.specs.Exempt.{binding, escalating}
 use Rattle.kapi_aggregation.specs.Roles.{roles_in}
 use Rattle.kapi_aggregation.specs.Unions.{IsSettled as AreUnions}
-use Rattle.kapi_gains.specs.Access.{IsUnprivileged, may, verb_of}
-use Rattle.kapi_gains.specs.States.{labelled_roles}
-use Rattle.kapi_gains.proofs.StoredRoles.{labelled_are}
-use Rattle.kapi_gains.specs.StoredStates.{labels_at}
+use Rattle.kapi_escalation_laws.specs.Access.{IsUnprivileged, may, verb_of}
+use Rattle.kapi_escalation_laws.specs.States.{labelled_roles}
+use Rattle.kapi_escalation_laws.proofs.StoredRoles.{labelled_are}
+use Rattle.kapi_escalation_laws.specs.StoredStates.{labels_at}
 use Rattle.kapi_core.proofs.Gains.{opening_in_order}
 use Rattle.kapi_core.proofs.Opened.{five, opened_tree, opening_five, tree_in}
 use Rattle.kapi_rbac_types.proofs.Stamped.{cluster_role_binding_stamped, cluster_role_stamped}

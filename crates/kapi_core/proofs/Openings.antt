@@ -8,7 +8,7 @@ use Rattle.kapi_store.specs.Plain.{PlainChange, creation}
 use Rattle.kapi_store.specs.declared.key.Key.{Key}
 use Rattle.kapi_model.specs.declared.row.ResourceRow.{ResourceRow}
 use Rattle.kapi_policy.specs.Objects.{no_objects}
-use Rattle.kapi_guard.specs.Reading.{collected, policy_objects}
+use Rattle.kapi_escalation.specs.Reading.{collected, policy_objects}
 use Rattle.kapi_core.specs.Machine.{Machine, policy_of}
 use Rattle.kapi_core.specs.Opening.{OpeningObject, cluster_key, created_if, empty, with_opening, written_if}
 

@@ -12,7 +12,7 @@ use Rattle.kapi_answer.specs.declared.watch.Watching.{Watching}
 use Rattle.kapi_policy.specs.Objects.{PolicyObjects}
 use Rattle.kapi_store.specs.Plain.{Plain, PlainChange, RefinesPlain, plain_of}
 use Rattle.kapi_store.specs.State.{State}
-use Rattle.kapi_guard.specs.Reading.{policy_objects}
+use Rattle.kapi_escalation.specs.Reading.{policy_objects}
 use Rattle.kapi_watch.specs.Running.{at_place}
 use Rattle.kapi_watch.specs.Watches.{pumped}
 use Rattle.kapi_watch.specs.declared.watch.Cursor.{Cursor}

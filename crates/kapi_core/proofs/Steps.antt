@@ -20,7 +20,7 @@ use Rattle.kapi_watch.proofs.Standing.{starts}
 use Rattle.kapi_watch.specs.Running.{IsFresh}
 use Rattle.kapi_policy.specs.Objects.{PolicyObjects}
 use Rattle.kapi_store.specs.State.{State}
-use Rattle.kapi_guard.specs.Reading.{policy_objects}
+use Rattle.kapi_escalation.specs.Reading.{policy_objects}
 use Rattle.kapi_core.specs.declared.connection.Connection.{Connection}
 use Rattle.kapi_core.specs.declared.event.ConnId.{ConnId}
 use Rattle.kapi_core.specs.declared.event.Event.{Event}

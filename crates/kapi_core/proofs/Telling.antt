@@ -1,10 +1,10 @@
 -- Each answer reports what its event changed in the policy.
 use Rattle.std.proofs.Common.{◌≡◌, List, [], ◌∷◌, refl, sym, ap, ◌∙◌}
-use Rattle.kapi_gains.specs.StoredStates.{AreInOrder}
+use Rattle.kapi_escalation_laws.specs.StoredStates.{AreInOrder}
 use Rattle.kapi_store.specs.Plain.{Plain, PlainChange, written}
-use Rattle.kapi_guard.proofs.Writes.{policy_after, stands_in_order}
+use Rattle.kapi_escalation.proofs.Writes.{policy_after, stands_in_order}
 use Rattle.kapi_policy.specs.Steps.{after_changes}
-use Rattle.kapi_guard.specs.Reading.{policy_changes, policy_objects}
+use Rattle.kapi_escalation.specs.Reading.{policy_changes, policy_objects}
 use Rattle.kapi_core.proofs.Effects.{Effect, effect}
 use Rattle.kapi_core.proofs.Gains.{event_is_run_on}
 use Rattle.kapi_core.specs.declared.event.Event.{Event}

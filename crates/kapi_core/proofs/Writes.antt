@@ -6,9 +6,9 @@ use Rattle.kapi_store.specs.Changes.{placed_all}
 use Rattle.kapi_store.specs.Plain.{Plain, PlainChange, RefinesPlain, plain_of, trees_left_by, written}
 use Rattle.kapi_policy.specs.Objects.{PolicyObjects}
 use Rattle.kapi_store.specs.State.{State}
-use Rattle.kapi_guard.proofs.Writes.{policy_written}
+use Rattle.kapi_escalation.proofs.Writes.{policy_written}
 use Rattle.kapi_policy.specs.Steps.{after_changes}
-use Rattle.kapi_guard.specs.Reading.{policy_changes, policy_objects}
+use Rattle.kapi_escalation.specs.Reading.{policy_changes, policy_objects}
 use Rattle.kapi_core.specs.Private.Writes.{Writes}
 
 nothing_written : (s : Plain) → s ≡ written [] s

@@ -5,9 +5,9 @@ use Rattle.kapi_model.specs.declared.identity.Identity.{Identity}
 use Rattle.kapi_policy.specs.Objects.{PolicyObjects}
 use Rattle.kapi_aggregation.specs.Roles.{Labelled, roles_in}
 use Rattle.kapi_aggregation.specs.Unions.{IsSettled}
-use Rattle.kapi_gains.specs.Access.{GivesNothing, IsUnprivileged}
-use Rattle.kapi_gains.specs.StoredStates.{labels_at}
-use Rattle.kapi_gains.specs.Within.{RolesNeverGrow, StaysWithin}
+use Rattle.kapi_escalation_laws.specs.Access.{GivesNothing, IsUnprivileged}
+use Rattle.kapi_escalation_laws.specs.StoredStates.{labels_at}
+use Rattle.kapi_escalation_laws.specs.Within.{RolesNeverGrow, StaysWithin}
 use Rattle.kapi_aggregation.specs.Members.{Has}
 use Rattle.kapi_core.specs.declared.event.Answer.TheVariants as told
 use Rattle.kapi_core.specs.declared.event.ConnId.{ConnId}

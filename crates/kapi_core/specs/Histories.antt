@@ -12,7 +12,7 @@ use Rattle.kapi_watch.specs.Histories.{IsHistory, IsReplacement}
 use Rattle.kapi_watch.specs.Lists.{all_on_top, list_at, listed}
 use Rattle.kapi_watch.specs.Runs.{HoldsOn, Step, history_after, shown_over, still_due, watch_after}
 use Rattle.kapi_watch.specs.Watches.{started_at, started_now}
-use Rattle.kapi_watch.specs.declared.scope.Scope.{Scope}
+use Rattle.kapi_watch.specs.declared.scope.WatchScope.{WatchScope}
 use Rattle.kapi_core.specs.Machine.{Machine, after, changed, with_rechecks}
 use Rattle.kapi_core.specs.Opening.{opening}
 use Rattle.kapi_core.specs.Running.{Running}
@@ -53,24 +53,24 @@ LoadsGoOn = (core : Running) (m : Machine) (text : List ℕ) (cs : List PlainCha
 -- ---- the lists of a machine
 
 -- what the store of a machine lists
-abbrev pub list_of : Scope → Machine → List (Key × Data)
+abbrev pub list_of : WatchScope → Machine → List (Key × Data)
 list_of scope m = listed scope m.store.objects
 
 -- the list at the revision of a machine is what it listed then, whatever events came after
 abbrev pub ListedThen : Type 0
-ListedThen = (on : Bool) (table : List ResourceRow) (first : ℕ) (texts : List (List ℕ)) (before events : List Event) (scope : Scope) →
+ListedThen = (on : Bool) (table : List ResourceRow) (first : ℕ) (texts : List (List ℕ)) (before events : List Event) (scope : WatchScope) →
     let m : Machine = served on table first texts before in
     list_at scope m.store.revision (after m events).changes ≡ list_of scope m
 
 -- what is due to a watch from a revision on, on top of the list at that revision, is what is listed now
 abbrev pub DueIsListed : Type 0
-DueIsListed = (on : Bool) (table : List ResourceRow) (first : ℕ) (texts : List (List ℕ)) (events : List Event) (scope : Scope) (revision : ℕ) →
+DueIsListed = (on : Bool) (table : List ResourceRow) (first : ℕ) (texts : List (List ℕ)) (events : List Event) (scope : WatchScope) (revision : ℕ) →
     let m : Machine = served on table first texts events in
     all_on_top scope (list_at scope revision m.changes) (still_due m.changes (started_at scope revision)) ≡ list_of scope m
 
 -- what is due to a watch that shows first what was listed when it started, on top of nothing, is what is listed now
 abbrev pub FirstIsListed : Type 0
-FirstIsListed = (on : Bool) (table : List ResourceRow) (first : ℕ) (texts : List (List ℕ)) (before events : List Event) (scope : Scope) →
+FirstIsListed = (on : Bool) (table : List ResourceRow) (first : ℕ) (texts : List (List ℕ)) (before events : List Event) (scope : WatchScope) →
     let m : Machine = served on table first texts before in
     let n : Machine = after m events in
     all_on_top scope [] (still_due n.changes (started_now m.store scope)) ≡ list_of scope n
@@ -82,7 +82,7 @@ IsBetween ts m n = history_after ts m.changes ≡ n.changes
 -- what a watch from a revision on has shown while the window holds, on top of the list at that revision, is what is
 -- listed now, once nothing is due any more
 abbrev pub ShownIsListed : Type 0
-ShownIsListed = (on : Bool) (table : List ResourceRow) (first : ℕ) (texts : List (List ℕ)) (before events : List Event) (ts : List Step) (scope : Scope) (revision : ℕ) →
+ShownIsListed = (on : Bool) (table : List ResourceRow) (first : ℕ) (texts : List (List ℕ)) (before events : List Event) (ts : List Step) (scope : WatchScope) (revision : ℕ) →
     let m : Machine = served on table first texts before in
     let n : Machine = after m events in
     IsBetween ts m n → HoldsOn ts m.changes m.store (started_at scope revision) → still_due n.changes (watch_after ts m.changes m.store (started_at scope revision)) ≡ []
@@ -91,7 +91,7 @@ ShownIsListed = (on : Bool) (table : List ResourceRow) (first : ℕ) (texts : Li
 -- what a watch that shows first what is listed has shown while the window holds, on top of nothing, is what is listed
 -- now, once nothing is due any more
 abbrev pub FirstShownIsListed : Type 0
-FirstShownIsListed = (on : Bool) (table : List ResourceRow) (first : ℕ) (texts : List (List ℕ)) (before events : List Event) (ts : List Step) (scope : Scope) →
+FirstShownIsListed = (on : Bool) (table : List ResourceRow) (first : ℕ) (texts : List (List ℕ)) (before events : List Event) (ts : List Step) (scope : WatchScope) →
     let m : Machine = served on table first texts before in
     let n : Machine = after m events in
     IsBetween ts m n → HoldsOn ts m.changes m.store (started_now m.store scope) → still_due n.changes (watch_after ts m.changes m.store (started_now m.store scope)) ≡ []

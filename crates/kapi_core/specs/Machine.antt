@@ -21,7 +21,7 @@ use Rattle.kapi_store.specs.Faults.{StoreFault}
 use Rattle.kapi_store.specs.Plain.{Plain, PlainChange, written}
 use Rattle.kapi_watch.specs.Shown.{Shown}
 use Rattle.kapi_watch.specs.Watches.{after_pump, pumped}
-use Rattle.kapi_guard.specs.Reading.{policy_changes, policy_objects}
+use Rattle.kapi_escalation.specs.Reading.{policy_changes, policy_objects}
 use Rattle.kapi_core.specs.declared.event.Event.{Event}
 use Rattle.kapi_core.specs.declared.event.Event.TheVariants as event
 use Rattle.kapi_core.specs.declared.event.Answer.{Answer}

@@ -9,7 +9,7 @@ use Rattle.kapi_watch.specs.Runs.{HoldsOn, Made, Pump, Step, shown_over, still_d
 use Rattle.kapi_watch.specs.Shown.{Added, Deleted, Expired, Modified, Refused, Shown}
 use Rattle.kapi_watch.specs.Text.{type_of}
 use Rattle.kapi_watch.specs.Watches.{started_at, started_now}
-use Rattle.kapi_watch.specs.declared.scope.Scope.{Scope}
+use Rattle.kapi_watch.specs.declared.scope.WatchScope.{WatchScope}
 use Rattle.kapi_core.specs.Histories.{IsBetween, list_of, served}
 use Rattle.kapi_core.specs.Machine.{Machine, after, link_at, step}
 use Rattle.kapi_core.specs.declared.event.Answer.{Answer}
@@ -100,7 +100,7 @@ EventsAreARun = (on : Bool) (table : List ResourceRow) (first : ℕ) (texts : Li
 -- what was sent of a watch from a revision on, on top of the list at that revision, is what is listed now, once
 -- nothing is due any more
 abbrev pub SentIsListed : Type 0
-SentIsListed = (on : Bool) (table : List ResourceRow) (first : ℕ) (texts : List (List ℕ)) (before events : List Event) (id : ℕ) (w v : PlainWatching) (scope : Scope) (revision : ℕ) →
+SentIsListed = (on : Bool) (table : List ResourceRow) (first : ℕ) (texts : List (List ℕ)) (before events : List Event) (id : ℕ) (w v : PlainWatching) (scope : WatchScope) (revision : ℕ) →
     let m : Machine = served on table first texts before in
     let n : Machine = after m events in
     watch_on id m ≡ Some w → w.watch ≡ started_at scope revision → WatchesOn id m events → watch_on id n ≡ Some v → still_due n.changes v.watch ≡ []
@@ -108,7 +108,7 @@ SentIsListed = (on : Bool) (table : List ResourceRow) (first : ℕ) (texts : Lis
 
 -- what was sent of a watch that shows first what is listed, on top of nothing, is listed now, once nothing is due
 abbrev pub FirstSentIsListed : Type 0
-FirstSentIsListed = (on : Bool) (table : List ResourceRow) (first : ℕ) (texts : List (List ℕ)) (before events : List Event) (id : ℕ) (w v : PlainWatching) (scope : Scope) →
+FirstSentIsListed = (on : Bool) (table : List ResourceRow) (first : ℕ) (texts : List (List ℕ)) (before events : List Event) (id : ℕ) (w v : PlainWatching) (scope : WatchScope) →
     let m : Machine = served on table first texts before in
     let n : Machine = after m events in
     watch_on id m ≡ Some w → w.watch ≡ started_now m.store scope → WatchesOn id m events → watch_on id n ≡ Some v → still_due n.changes v.watch ≡ []

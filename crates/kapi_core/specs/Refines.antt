@@ -6,16 +6,16 @@ use Rattle.kapi_http.specs.declared.message.HttpRequest.{HttpRequest}
 use Rattle.kapi_http.specs.declared.inbox.FeedError.{FeedError}
 use Rattle.kapi_http.specs.declared.inbox.FeedError.TheVariants as fed
 use Rattle.kapi_model.specs.declared.identity.Identity.{Identity}
-use Rattle.kapi_text.specs.Gives.{Fails}
+use Rattle.kapi_text.specs.ResultIs.{Fails}
 use Rattle.kapi_aggregation.specs.Marks.{Covers, Tracked}
 use Rattle.kapi_aggregation.specs.Roles.{roles_in}
-use Rattle.kapi_answer.specs.Load.{fault_told, loads}
+use Rattle.kapi_answer.specs.Load.{model_of_fault, loads}
 use Rattle.kapi_answer.specs.Watch.{PlainWatching, RefinesWatching}
 use Rattle.kapi_answer.specs.declared.loading.LoadError.{LoadError}
 use Rattle.kapi_answer.specs.declared.watch.Watching.{Watching}
 use Rattle.kapi_policy.specs.declared.change.PolicyChange.{PolicyChange}
 use Rattle.kapi_store.specs.Plain.{Plain, PlainChange, RefinesPlain, plain_of}
-use Rattle.kapi_guard.specs.Reading.{policy_changes}
+use Rattle.kapi_escalation.specs.Reading.{policy_changes}
 use Rattle.std.specs.Map.{keys_of}
 use Rattle.kapi_core.specs.Opening.{opening_keys}
 use Rattle.kapi_policy.specs.Objects.{PolicyObjects}
@@ -136,7 +136,7 @@ Steps old new event (Err e) = RunsOut old new event
 abbrev pub Loads : Running → Running → List ℕ → Result (List PolicyChange) LoadError → Type 0
 Loads old new text (Ok made) = (m : Machine) → Refines old m
     → (changes : List PlainChange) × (loads m.store text ≡ Ok changes) × (made ≡ policy_changes changes) × Refines new (changed changes m)
-Loads old new text (Err e) = (m : Machine) → Refines old m → Fails (fault_told e) (loads m.store text) × Refines new m
+Loads old new text (Err e) = (m : Machine) → Refines old m → Fails (model_of_fault e) (loads m.store text) × Refines new m
 
 -- one step more was made, and its answer put at the end
 abbrev pub Pushes : Running → Running → Event → List Answer → List Answer → Type 0

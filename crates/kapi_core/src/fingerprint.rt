@@ -6,7 +6,7 @@ ghost use Rattle.kapi_store.specs.Lent.{changes_of};
 
 use kapi_store::{Changes, Key};
 use kapi_text::Memory;
-use kapi_watch::Scope;
+use kapi_watch::WatchScope;
 use std::alloc::Global;
 
 /// The basis of FNV-1a (<http://www.isthe.com/chongo/tech/comp/fnv/>).
@@ -33,7 +33,7 @@ fn fingerprint(group: &str, resource: &str, namespace: &str) -> u64
 }
 
 /// The fingerprint of a scope.
-pub fn fingerprint_of_scope(scope: &Scope) -> u64
+pub fn fingerprint_of_scope(scope: &WatchScope) -> u64
     ensures { result ≡ fingerprint_of scope.now.row.group scope.now.row.plural scope.now.namespace }
 {
     fingerprint(

@@ -4,12 +4,12 @@ ghost use Rattle.kapi_aggregation.specs.Marks.{CoversAsMuch};
 ghost use Rattle.kapi_answer.specs.Responses.{changes_data};
 ghost use Rattle.kapi_core.specs.Private.Writes.{LoadsInto, TurnsInto, Writes};
 ghost use Rattle.kapi_store.specs.State.{Fits};
-ghost use Rattle.kapi_guard.specs.Reading as reading;
+ghost use Rattle.kapi_escalation.specs.Reading as reading;
 
 use crate::event::Turned;
 use kapi_aggregation::{Tracker, Turn, rewrite};
 use kapi_answer::{LoadError, load};
-use kapi_guard::policy_changes;
+use kapi_escalation::policy_changes;
 use kapi_policy::{Policy, PolicyStep};
 use kapi_store::{Ready, Store, StoreError};
 use kapi_text::Memory;

@@ -1,6 +1,6 @@
 -- What a loaded policy is of.
 use Rattle.std.specs.Prelude.{ℕ, List, Result, Ok}
-use Rattle.kapi_text.specs.Gives.{◌>>=◌}
+use Rattle.kapi_text.specs.ResultIs.{◌>>=◌}
 use Rattle.kapi_core.specs.Machine.{Machine, policy_of}
 use Rattle.kapi_loading.specs.Faults.{FileFault}
 use Rattle.kapi_loading.specs.Loading.{policy_machine}

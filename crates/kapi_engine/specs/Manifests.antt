@@ -6,7 +6,7 @@ use Rattle.kapi_loading.specs.Faults.{bad_line}
 use Rattle.kapi_manifests.specs.Written.{Loads, faults_in_all}
 use Rattle.kapi_manifests.specs.declared.fault.Origin.{Origin}
 use Rattle.kapi_manifests.specs.declared.prepared.Prepared.{Prepared}
-use Rattle.kapi_manifests.specs.declared.sorted.Scope.TheVariants as scope
+use Rattle.kapi_manifests.specs.declared.sorted.Selection.TheVariants as scope
 use Rattle.kapi_engine.specs.LoadedPolicies.{loaded_of}
 use Rattle.kapi_engine.specs.declared.loaded_policy.LoadedPolicy.{LoadedPolicy}
 use Rattle.kapi_engine.specs.declared.manifests.ManifestsFault.{ManifestsFault}

@@ -1,18 +1,18 @@
 //! Answers about a whole policy, as they are printed.
 ghost use Rattle.std.specs.Prelude.{◌≡◌, ◌==◌, ◌++◌, IfOk, length, not};
-ghost use Rattle.kapi_text.specs.Gives.{Gives};
+ghost use Rattle.kapi_text.specs.ResultIs.{ResultIs};
 ghost use Rattle.kapi_access.specs.Gained.{gained};
 ghost use Rattle.kapi_access.specs.Risks.{risks};
 ghost use Rattle.kapi_access.specs.Answers.{gains_text, settled_line as settled_text, ways_text, who_text};
-ghost use Rattle.kapi_access.specs.Lines.{answered_lines, fault_told};
+ghost use Rattle.kapi_access.specs.Lines.{answered_lines, model_of_fault};
 ghost use Rattle.kapi_access.specs.Rights.{what_text};
 ghost use Rattle.kapi_engine.specs.Paths.{IsPathsText, settled_end as settled_end_of};
 ghost use Rattle.kapi_lines.specs.Lines.{lines_of};
 
 use crate::loaded_policy::LoadedPolicy;
 use kapi_access::{
-    Compared, Form, Holder, Identities, LineFault, Shown, Wanted, answer_compare, answer_lines,
-    answer_risks, answer_what, answer_who, settled_line,
+    Compared, Form, Holder, Identities, LineFault, ScopedPoint, Shown, answer_compare,
+    answer_lines, answer_risks, answer_what, answer_who, settled_line,
 };
 use kapi_lines::numbered_lines;
 use kapi_paths::answer_paths;
@@ -21,7 +21,7 @@ use std::alloc::Global;
 
 impl LoadedPolicy {
     /// Who may do what is asked: a line for each user and group and each binding by which it may.
-    pub fn who(&self, alloc: Global, form: Form, wanted: &Wanted) -> Result<Vec<u8>, Memory>
+    pub fn who(&self, alloc: Global, form: Form, wanted: &ScopedPoint) -> Result<Vec<u8>, Memory>
         ensures { IfOk result (λ v. v.items ≡ who_text form self.now.policy wanted.now) }
     {
         let bindings = self.policy.bindings()?;
@@ -38,7 +38,7 @@ impl LoadedPolicy {
         form: Form,
         questions: &[u8],
     ) -> Result<Vec<u8>, LineFault>
-        ensures { Gives fault_told (λ v. v.items) result (answered_lines form self.now.policy (lines_of questions.now)) }
+        ensures { ResultIs model_of_fault (λ v. v.items) result (answered_lines form self.now.policy (lines_of questions.now)) }
     {
         let lines = numbered_lines(alloc, questions)?;
         let bindings = self.policy.bindings()?;

@@ -11,7 +11,7 @@ mod manifests;
 mod question;
 
 pub use answers::compare;
-pub use kapi_access::{Compared, Form, Holder, Identities, LineFault, Scope, Shown, Wanted};
+pub use kapi_access::{Compared, Form, Holder, Identities, LineFault, Scope, ScopedPoint, Shown};
 pub use kapi_core::access_reviews;
 pub use kapi_loading::StartError;
 pub use kapi_reviews::Question;

@@ -1,5 +1,5 @@
-ghost use Rattle.kapi_text.specs.Gives.{Gives};
-ghost use Rattle.kapi_loading.specs.Faults.{fault_told};
+ghost use Rattle.kapi_text.specs.ResultIs.{ResultIs};
+ghost use Rattle.kapi_loading.specs.Faults.{model_of_fault};
 ghost use Rattle.kapi_engine.specs.LoadedPolicies.{loaded_of};
 
 use kapi_index::IndexedPolicy;
@@ -21,7 +21,7 @@ pub struct LoadedPolicy {
 /// # Errors
 /// `Line` at the first line that is not loaded, `Memory` if an allocation fails.
 pub fn load(alloc: Global, objects: &[u8]) -> Result<LoadedPolicy, StartError>
-    ensures { Gives fault_told (λ e. e) result (loaded_of objects.now) }
+    ensures { ResultIs model_of_fault (λ e. e) result (loaded_of objects.now) }
 {
     let mut core = load_policy(alloc, objects)?;
     if core.is_quiet() {

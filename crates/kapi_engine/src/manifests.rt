@@ -3,12 +3,12 @@ ghost use Rattle.std.specs.Prelude.{◌≡◌, IfOk, length, map};
 ghost use Rattle.kapi_core.specs.ProgramTable.{program_rows};
 ghost use Rattle.kapi_engine.specs.Manifests.{IsOfManifests, faults_of, origin_of as origin_in};
 ghost use Rattle.kapi_manifests.specs.Written.{Loads};
-ghost use Rattle.kapi_manifests.specs.declared.sorted.Scope.TheVariants as scope;
+ghost use Rattle.kapi_manifests.specs.declared.sorted.Selection.TheVariants as scope;
 
 use crate::loaded_policy::{LoadedPolicy, load};
 use kapi_core::program_table;
 use kapi_loading::StartError;
-use kapi_manifests::{Fault, Options, Origin, Prepared, Scope, prepare};
+use kapi_manifests::{Fault, Options, Origin, Prepared, Selection, prepare};
 use kapi_text::Memory;
 use std::alloc::Global;
 
@@ -71,7 +71,7 @@ fn prepare_policy(
 {
     let table = program_table(alloc)?;
     let options = Options {
-        scope: Scope::Policy,
+        scope: Selection::Policy,
         kinds: table.as_slice(),
         namespace,
         defaults,

@@ -15,9 +15,9 @@ use Rattle.kapi_answer.specs.Query.{asked, queried, version_reached}
 use Rattle.kapi_answer.specs.Route.{action_at, collection_of, on_row, place_of, place_on, read_health, routed}
 use Rattle.kapi_answer.specs.Watch.{since_served}
 use Rattle.kapi_core.specs.Machine.{after_serve, answers, feed_step, open_step, rest_after, serve_beside, serve_item, serve_step, step}
-use Rattle.kapi_guard.specs.Checks.{all_held, checked as write_checked, rules_held}
-use Rattle.kapi_guard.specs.Kind.{policy_kind}
-use Rattle.kapi_guard.specs.Reading.{collected, policy_changes, policy_objects}
+use Rattle.kapi_escalation.specs.Checks.{all_held, checked as write_checked, rules_held}
+use Rattle.kapi_escalation.specs.Kind.{policy_kind}
+use Rattle.kapi_escalation.specs.Reading.{collected, policy_changes, policy_objects}
 use Rattle.kapi_policy.specs.Decided.{bindings_in, decided, given, granted, granted_by, held, rules_of}
 use Rattle.kapi_reply.specs.Refusals.{denied_text, failure_of, subject_of}
 use Rattle.kapi_reply.specs.Status.{status_of, with_causes, with_some_object, with_some_text, with_subject}

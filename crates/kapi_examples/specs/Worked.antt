@@ -12,7 +12,7 @@ use Rattle.kapi_model.specs.declared.row.Schema.TheVariants as schema
 use Rattle.kapi_model.specs.declared.subject.Subject.TheVariants.{User}
 use Rattle.kapi_object.specs.Tree.{json_object}
 use Rattle.kapi_policy.specs.Objects.{PolicyObjects, no_objects}
-use Rattle.kapi_reply.specs.Refusals.{Asked}
+use Rattle.kapi_reply.specs.Refusals.{RefusedRequest}
 use Rattle.kapi_rules.specs.Worked.{get_of, get_on}
 use Rattle.kapi_store.specs.Plain.{Plain, PlainChange, opened}
 use Rattle.kapi_store.specs.declared.key.Key.{Key}
@@ -65,7 +65,7 @@ abbrev pub with_pod : Plain
 with_pod = record (opened (pods ∷ []) 5) { objects = (pod (codes "n"), stored) ∷ []; revision = 6 }
 
 -- Bob's request to get pods of the namespace `n`
-abbrev pub bob_asks : Asked
+abbrev pub bob_asks : RefusedRequest
 bob_asks = record { user = codes "bob"; method = Get; attributes = record { namespace = codes "n"; point = get_of (codes "pods"); version = codes "v1"; parts = 1; query = [] } }
 
 -- a GET without header fields

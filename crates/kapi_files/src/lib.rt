@@ -5,8 +5,8 @@ mod ending;
 mod kinds;
 mod manifests;
 mod sources;
+mod stderr;
 mod system_reason;
-mod telling;
 
 pub use ending::Ending;
 pub use kinds::{KUBERNETES, read_kinds};
@@ -14,5 +14,5 @@ pub use manifests::{
     ReadPolicy, place_of, read_policy, read_policy_of, read_served, tell_refused, tell_unloaded,
 };
 pub use sources::read_texts;
+pub use stderr::{Plain, print, read_file, tell_reason, tell_stopped, tell_unread};
 pub use system_reason::Reason;
-pub use telling::{Plain, print, read_file, tell_reason, tell_stopped, tell_unread};

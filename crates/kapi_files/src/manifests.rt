@@ -3,12 +3,12 @@ ghost use Rattle.std.specs.Prelude.{◌≡◌, true};
 ghost use Rattle.kapi_core.specs.Table.{fits};
 
 use crate::sources::{Source, read_named, texts_of};
-use crate::telling::Plain;
+use crate::stderr::Plain;
 use kapi_command_line::Reading;
 use kapi_core::program_table;
 use kapi_lines::numbered_lines;
 use kapi_loading::{LineReason, line_reasons};
-use kapi_manifests::{Options, Origin, Prepared, Scope, prepare, text_at};
+use kapi_manifests::{Options, Origin, Prepared, Selection, prepare, text_at};
 use kapi_model::ResourceRow;
 use kapi_policy::NamespacedName;
 use kapi_text::{Memory, Sequence, Text};
@@ -50,7 +50,7 @@ pub fn read_policy_of<R: Files + Input + Eprint + AllocGlobal + Clone + Drop>(
     if !read_named(rt, path, reading.strict, &mut sources)? {
         return Ok(None);
     }
-    read_with(rt, table, sources, reading, Scope::Policy)
+    read_with(rt, table, sources, reading, Selection::Policy)
 }
 
 /// The objects that a server of this table begins with. None if there is a fault, after a line on standard error for each.
@@ -59,7 +59,7 @@ pub fn read_served<R: Files + Input + Eprint + AllocGlobal + Clone + Drop>(
     table: &[ResourceRow],
     reading: &Reading,
 ) -> io::Result<Option<ReadPolicy>> {
-    read_with(rt, table, Vec::new(rt.alloc()), reading, Scope::All)
+    read_with(rt, table, Vec::new(rt.alloc()), reading, Selection::All)
 }
 
 /// The objects of files already read, and of the further files of a policy. None if there is a fault, after a line on
@@ -69,7 +69,7 @@ fn read_with<R: Files + Input + Eprint + AllocGlobal + Clone + Drop>(
     table: &[ResourceRow],
     sources: Vec<Source>,
     reading: &Reading,
-    scope: Scope,
+    scope: Selection,
 ) -> io::Result<Option<ReadPolicy>> {
     let mut sources = sources;
     for name in reading.with.as_slice() {
@@ -92,11 +92,11 @@ fn prepare_sources(
     table: &[ResourceRow],
     sources: &[Source],
     reading: &Reading,
-    scope: Scope,
+    scope: Selection,
 ) -> Result<Prepared, Memory> {
     let words = match scope {
-        Scope::Policy => true,
-        Scope::All => false,
+        Selection::Policy => true,
+        Selection::All => false,
     };
     let texts = texts_of(alloc, sources)?;
     let options = Options {
@@ -221,7 +221,7 @@ impl ReadPolicy {
             table.as_slice(),
             self.sources.as_slice(),
             &reading,
-            Scope::All,
+            Selection::All,
         )?;
         let mut accounts = BTreeSet::new(alloc);
         for line in numbered_lines(alloc, all.text.as_slice())?.iter() {

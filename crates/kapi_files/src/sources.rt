@@ -1,5 +1,5 @@
 //! Files and folders that are read, and where what they hold was written.
-use crate::telling::{Plain, tell_unread};
+use crate::stderr::{Plain, tell_unread};
 use kapi_lines::as_text;
 use kapi_text::{Memory, Sequence, Text};
 use serde_json::Value;

@@ -16,7 +16,7 @@ use Rattle.kapi_model.specs.declared.binding.RoleBinding.{RoleBinding}
 use Rattle.kapi_model.specs.declared.role.Role.{Role}
 use Rattle.kapi_index.proofs.Finds.{name_total}
 use Rattle.kapi_index.proofs.Spread.{insert_text}
-use Rattle.kapi_index.specs.Contents.{AreNamed, AreDistinct, Part, bindings_in, by_text, in_all, part, parts, placed, roles_in}
+use Rattle.kapi_index.specs.Contents.{AreNamed, AreDistinct, NamespaceContents, bindings_in, by_text, in_all, part, parts, placed, roles_in}
 use Rattle.kapi_index.specs.Scopes.{bare}
 use Rattle.kapi_index.specs.declared.scope.Bound.{Bound}
 use Rattle.kapi_index.specs.declared.spaces.Namespace.{Namespace}
@@ -61,10 +61,10 @@ space_more old new key name copy space left rest es step whole spread same named
     (ap (λ l. parts (by_text l)) put ∙ ap parts (insert_text old key copy) ∙ parts_put (by_text old) (string_bytes key) copy
     ∙ ap (λ n. insert_entry name_cmp (parts (by_text old)) n (part copy)) named ∙ ap (insert_entry name_cmp (parts (by_text old)) (string_bytes name)) same)
 
-abbrev roles_of : List (List ℕ × Part) → List (NamespacedName × Role)
+abbrev roles_of : List (List ℕ × NamespaceContents) → List (NamespacedName × Role)
 roles_of ps = flat_map (λ s. map (placed s.0) s.1.roles) ps
 
-abbrev bindings_of : List (List ℕ × Part) → List (NamespacedName × RoleBinding)
+abbrev bindings_of : List (List ℕ × NamespaceContents) → List (NamespacedName × RoleBinding)
 bindings_of ps = flat_map (λ s. map (placed s.0) s.1.bound.bindings) ps
 
 roles_of_parts : (a : List (List ℕ × Namespace)) → in_all roles_in a ≡ roles_of (parts a)
@@ -75,7 +75,7 @@ bindings_of_parts : (a : List (List ℕ × Namespace)) → in_all bindings_in a 
 bindings_of_parts [] = refl
 bindings_of_parts (s ∷ a) = ap (λ l. map (placed s.0) s.1.bound.bindings ++ l) (bindings_of_parts a)
 
-abbrev named_parts : List (List ℕ × Part) → Type 0
+abbrev named_parts : List (List ℕ × NamespaceContents) → Type 0
 named_parts [] = Unit {0}
 named_parts (p ∷ ps) = (p.1.bound.namespace ≡ p.0) × named_parts ps
 

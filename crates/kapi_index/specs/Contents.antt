@@ -54,16 +54,16 @@ pub record AreDistinct (spaces : List (List ℕ × Namespace)) : Type 0 where
   pub named : AreNamed spaces
 
 -- what contracts see of a namespace: its roles and bindings
-pub record Part : Type 0 where
+pub record NamespaceContents : Type 0 where
   pub roles : List (List ℕ × Role)
   pub bound : Scoped
 
 -- a namespace as it is seen
-abbrev pub part : Namespace → Part
+abbrev pub part : Namespace → NamespaceContents
 part space = record { roles = space.roles.entries; bound = space.bound }
 
 -- the namespaces as they are seen, each with its name
-abbrev pub parts : List (List ℕ × Namespace) → List (List ℕ × Part)
+abbrev pub parts : List (List ℕ × Namespace) → List (List ℕ × NamespaceContents)
 parts spaces = map (λ s. (s.0, part s.1)) spaces
 
 -- a binding as one that counts cluster-wide

@@ -4,7 +4,7 @@ ghost use Rattle.kapi_policy.specs.All.{bindings_in_namespaces};
 ghost use Rattle.kapi_policy.specs.Views.{binding_of};
 ghost use Rattle.kapi_index.specs.Contents.{binding_at as binding_in, bindings_in, bindings_of_space, by_text, in_all};
 
-use crate::scope::Scope;
+use crate::scope::ScopeBindings;
 use crate::spaces::{Namespace, Spaces};
 use kapi_model::RoleBinding;
 use kapi_policy::{Binding, BindingKind};
@@ -33,7 +33,7 @@ fn push_scope<'a>(
     list: &mut Vec<Binding<'a>>,
     kind: BindingKind,
     namespace: &'a str,
-    scope: &'a Scope,
+    scope: &'a ScopeBindings,
 ) -> Result<(), Memory>
     ensures { OnOk result (map binding_of list.new.items ≡ map binding_of list.old.items ++ map (binding_in kind namespace.now) scope.now.bindings) }
 {
@@ -44,7 +44,10 @@ fn push_scope<'a>(
 }
 
 /// The cluster-wide bindings.
-pub fn cluster_bindings<'a>(alloc: Global, cluster: &'a Scope) -> Result<Vec<Binding<'a>>, Memory>
+pub fn cluster_bindings<'a>(
+    alloc: Global,
+    cluster: &'a ScopeBindings,
+) -> Result<Vec<Binding<'a>>, Memory>
     ensures { IfOk result (λ v. map binding_of v.items ≡ map (binding_in BindingKind.ClusterRoleBinding []) cluster.now.bindings) }
 {
     let mut list = Vec::new(alloc);

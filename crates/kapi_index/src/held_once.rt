@@ -8,7 +8,7 @@ ghost use Rattle.kapi_index.specs.Contents.{binding_at};
 ghost use Rattle.kapi_index.specs.Taken.{AreListed, AreTaken};
 
 use crate::indexed::IndexedPolicy;
-use crate::scope::Scope;
+use crate::scope::ScopeBindings;
 use crate::walk::push_of;
 use kapi_model::{Identity, PolicyRule, RoleKind, RoleRef};
 use kapi_policy::BindingKind;
@@ -76,7 +76,7 @@ fn push_scope(
     list: &mut Vec<PolicyRule>,
     policy: &IndexedPolicy,
     kind: BindingKind,
-    scope: &Scope,
+    scope: &ScopeBindings,
     identity: &Identity,
 ) -> Result<(), Memory>
     ensures { OnOk result (AreSameRules list.new.items (list.old.items ++ flat_map (rules_by policy.now identity.now) (map (binding_at kind scope.now.namespace) scope.now.bindings))) }

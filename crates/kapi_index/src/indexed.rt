@@ -11,7 +11,7 @@ use crate::all::{cluster_bindings, push_spaces};
 use crate::held_once::held_once;
 use crate::roles::{PreparedClusterRole, PreparedRole};
 use crate::rules::CompiledRules;
-use crate::scope::Scope;
+use crate::scope::ScopeBindings;
 use crate::spaces::{
     Spaces, copy_spaces, put_binding, put_role, rules_at, scope_in, take_binding, take_role,
 };
@@ -31,7 +31,7 @@ use std::marker::Model;
 pub struct IndexedPolicy {
     alloc: Global,
     cluster_roles: BTreeMap<Text, PreparedClusterRole>,
-    cluster: Scope,
+    cluster: ScopeBindings,
     spaces: Spaces,
 }
 
@@ -55,7 +55,7 @@ impl IndexedPolicy {
         IndexedPolicy {
             alloc,
             cluster_roles: BTreeMap::new(alloc),
-            cluster: Scope::new(alloc, Text::new(String::new(alloc))),
+            cluster: ScopeBindings::new(alloc, Text::new(String::new(alloc))),
             spaces: BTreeMap::new(alloc),
         }
     }
@@ -106,14 +106,14 @@ impl IndexedPolicy {
     }
 
     /// The cluster-wide bindings.
-    pub(crate) fn cluster(&self) -> &Scope
+    pub(crate) fn cluster(&self) -> &ScopeBindings
         ensures { map cluster_binding self.now.cluster_role_bindings ≡ map (binding_at BindingKind.ClusterRoleBinding result.now.namespace) result.now.bindings }
     {
         &self.cluster
     }
 
     /// The bindings of a namespace, if it is there.
-    pub(crate) fn scope_in(&self, namespace: &str) -> Option<&Scope>
+    pub(crate) fn scope_in(&self, namespace: &str) -> Option<&ScopeBindings>
         ensures { MatchOption result (bindings_of namespace.now self.now.role_bindings ≡ []) (λ s. bindings_of namespace.now self.now.role_bindings ≡ map (binding_at BindingKind.RoleBinding s.now.namespace) s.now.bindings) }
     {
         scope_in(&self.spaces, namespace)

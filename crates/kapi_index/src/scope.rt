@@ -33,7 +33,7 @@ const FEW_LOOKS: usize = 8;
 
 /// The bindings of one namespace by name, or, if the namespace is empty, the cluster-wide ones.
 #[derive(Drop)]
-pub struct Scope {
+pub struct ScopeBindings {
     alloc: Global,
     namespace: Text,
     bindings: Bindings,
@@ -41,7 +41,7 @@ pub struct Scope {
     groups: NameSets,
 }
 
-impl Model for Scope {
+impl Model for ScopeBindings {
     ghost use Rattle.kapi_index.specs.Scopes.{IsExact, Scoped, bare};
 
     ghost Value = { Scoped };
@@ -185,7 +185,7 @@ fn take_bound(
 }
 
 // Puts copies of bindings into a scope that has none.
-fn put_copies(alloc: Global, copied: &mut Scope, bindings: &Bindings) -> Result<(), Memory>
+fn put_copies(alloc: Global, copied: &mut ScopeBindings, bindings: &Bindings) -> Result<(), Memory>
     requires { copied.old.bindings ≡ [] }
     ensures { OnOk result (copied.new ≡ record copied.old { bindings = bare bindings.now.entries }) }
 {
@@ -255,7 +255,7 @@ fn named<'a>(bindings: &'a Bindings, name: &'a Text) -> Option<(&'a Text, &'a Ro
     }
 }
 
-impl Scope {
+impl ScopeBindings {
     ghost use Rattle.std.specs.Prelude.{◌≡◌, ◌∷◌, [], true, nat_le, IfOk, IfSome, MatchOption, OnErr, OnOk};
     ghost use Rattle.std.specs.BTreeMap.{insert_entry, is_at};
     ghost use Rattle.std.specs.Map.{remove_entry};
@@ -264,10 +264,10 @@ impl Scope {
     ghost use Rattle.kapi_index.specs.Scopes.{bare, left as left_of, looks, matches};
 
     /// The scope of a namespace, without bindings.
-    pub fn new(alloc: Global, namespace: Text) -> Scope
+    pub fn new(alloc: Global, namespace: Text) -> ScopeBindings
         ensures { result ≡ record { namespace = namespace; bindings = [] } }
     {
-        Scope {
+        ScopeBindings {
             alloc,
             namespace,
             bindings: BTreeMap::new(alloc),
@@ -331,10 +331,10 @@ impl Scope {
     }
 
     /// An owned scope with the same bindings.
-    pub fn copy(&self) -> Result<Scope, Memory>
+    pub fn copy(&self) -> Result<ScopeBindings, Memory>
         ensures { IfOk result (λ s. s ≡ self.now) }
     {
-        let mut copied = Scope::new(self.alloc, self.namespace.copy(self.alloc)?);
+        let mut copied = ScopeBindings::new(self.alloc, self.namespace.copy(self.alloc)?);
         put_copies(self.alloc, &mut copied, &self.bindings)?;
         Ok(copied)
     }

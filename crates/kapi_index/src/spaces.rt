@@ -8,7 +8,7 @@ ghost use Rattle.kapi_index.specs.Contents.{AreDistinct, binding_at, bindings_in
 
 use crate::roles::PreparedRole;
 use crate::rules::CompiledRules;
-use crate::scope::Scope;
+use crate::scope::ScopeBindings;
 use kapi_model::RoleBinding;
 use kapi_policy::{BindingKind, NamespacedName, copy_map};
 use kapi_text::{Memory, Text, TryCopy};
@@ -19,7 +19,7 @@ use std::collections::BTreeMap;
 #[derive(Drop)]
 pub struct Namespace {
     pub roles: BTreeMap<Text, PreparedRole>,
-    pub bound: Scope,
+    pub bound: ScopeBindings,
 }
 
 pub type Spaces = BTreeMap<String, Namespace>;
@@ -32,7 +32,7 @@ fn empty(alloc: Global, name: &Text) -> Result<Namespace, Memory>
 {
     Ok(Namespace {
         roles: BTreeMap::new(alloc),
-        bound: Scope::new(alloc, name.copy(alloc)?),
+        bound: ScopeBindings::new(alloc, name.copy(alloc)?),
     })
 }
 
@@ -179,7 +179,7 @@ pub fn rules_at<'a>(spaces: &'a Spaces, name: &Text, namespace: &str) -> Option<
 }
 
 /// The bindings of a namespace, if it is there.
-pub fn scope_in<'a>(spaces: &'a Spaces, namespace: &str) -> Option<&'a Scope>
+pub fn scope_in<'a>(spaces: &'a Spaces, namespace: &str) -> Option<&'a ScopeBindings>
     requires spread { AreDistinct (by_text spaces.now.entries) }
     ensures { MatchOption result (bindings_of namespace.now (in_all bindings_in (by_text spaces.now.entries)) ≡ []) (λ s. bindings_of namespace.now (in_all bindings_in (by_text spaces.now.entries)) ≡ map (binding_at BindingKind.RoleBinding s.now.namespace) s.now.bindings) }
 {

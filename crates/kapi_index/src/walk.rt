@@ -13,7 +13,7 @@ use crate::asker::Asker;
 use crate::indexed::IndexedPolicy;
 use crate::prepared_point::{PreparedPoint, ask};
 use crate::rules::CompiledRules;
-use crate::scope::Scope;
+use crate::scope::ScopeBindings;
 use kapi_model::{Identity, PolicyRule, RoleBinding, RoleKind, RoleRef};
 use kapi_policy::{Binding, BindingKind, Decision, Grant};
 use kapi_rules::Point;
@@ -71,7 +71,7 @@ pub fn role_rules<'a>(
 
 fn binding_in<'a>(
     kind: BindingKind,
-    scope: &'a Scope,
+    scope: &'a ScopeBindings,
     name: &'a Text,
     binding: &'a RoleBinding,
 ) -> Binding<'a>
@@ -177,7 +177,7 @@ fn grant_to<'a>(
 fn grant_of_each<'a>(
     policy: &'a IndexedPolicy,
     kind: BindingKind,
-    scope: &'a Scope,
+    scope: &'a ScopeBindings,
     asker: &Asker<'_>,
     asked: &PreparedPoint<'_>,
 ) -> Option<Grant<'a>>
@@ -198,7 +198,7 @@ fn grant_of_each<'a>(
 fn grant_of_many<'a>(
     policy: &'a IndexedPolicy,
     kind: BindingKind,
-    scope: &'a Scope,
+    scope: &'a ScopeBindings,
     identity: &Identity,
     asked: &PreparedPoint<'_>,
 ) -> Option<Grant<'a>>
@@ -224,7 +224,7 @@ fn grant_of_many<'a>(
 fn scope_grant<'a>(
     policy: &'a IndexedPolicy,
     kind: BindingKind,
-    scope: &'a Scope,
+    scope: &'a ScopeBindings,
     identity: &Identity,
     asked: &PreparedPoint<'_>,
 ) -> Option<Grant<'a>>
@@ -242,7 +242,7 @@ fn push_scope(
     list: &mut Vec<PolicyRule>,
     policy: &IndexedPolicy,
     kind: BindingKind,
-    scope: &Scope,
+    scope: &ScopeBindings,
     identity: &Identity,
 ) -> Result<(), Memory>
     ensures { OnOk result (list.new.items ≡ list.old.items ++ flat_map (λ b. unwrap_or (given policy.now identity.now b) []) (map (binding_at kind scope.now.namespace) scope.now.bindings)) }

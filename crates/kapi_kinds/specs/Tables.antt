@@ -36,13 +36,13 @@ table_in files = option_and_then if_fits (rows_in files)
 
 -- ---- as the code has them
 
-abbrev pub table_told : Kinds → Option (List ResourceRow)
-table_told (kinds.Table t) = Some t
-table_told (kinds.Faults fs) = None
+abbrev pub model_of_table : Kinds → Option (List ResourceRow)
+model_of_table (kinds.Table t) = Some t
+model_of_table (kinds.Faults fs) = None
 
-abbrev pub faults_told : Kinds → List Fault
-faults_told (kinds.Table t) = []
-faults_told (kinds.Faults fs) = fs.items
+abbrev pub model_of_faults : Kinds → List Fault
+model_of_faults (kinds.Table t) = []
+model_of_faults (kinds.Faults fs) = fs.items
 
 -- the rows so far, if nothing is wrong
 abbrev pub kept : Gathered → Option (List ResourceRow)

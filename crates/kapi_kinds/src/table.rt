@@ -4,7 +4,7 @@ ghost use Rattle.std.specs.List.{list_any};
 ghost use Rattle.serde_json.specs.View.{view};
 ghost use Rattle.kapi_core.specs.Table.{fits, is_like};
 ghost use Rattle.kapi_kinds.specs.Rows.{row_named};
-ghost use Rattle.kapi_kinds.specs.Tables.{added, faults_told, grown, kept, table_in, table_told};
+ghost use Rattle.kapi_kinds.specs.Tables.{added, model_of_faults, grown, kept, table_in, model_of_table};
 ghost use Rattle.kapi_manifests.specs.Files.{bad_pieces, data_of, objects_of, sum_of};
 ghost use Rattle.kapi_manifests.specs.Written.{objects_in_all};
 
@@ -36,9 +36,9 @@ pub struct Gathered {
 /// The table of the resource types that the programs serve and those of files of kinds, or what is wrong with the files.
 /// Each resource type is compared with all before it, as a table is small.
 pub fn table_of(alloc: Global, files: &[&[u8]]) -> Result<Kinds, Memory>
-    ensures table { IfOk result (λ k. table_told k ≡ table_in (map (λ text. text.now) files.now)) }
-    ensures fits { IfOk result (λ k. IfSome (table_told k) (λ t. fits t ≡ true)) }
-    ensures faults { IfOk result (λ k. (length (faults_told k) == 0) ≡ is_some (table_in (map (λ text. text.now) files.now))) }
+    ensures table { IfOk result (λ k. model_of_table k ≡ table_in (map (λ text. text.now) files.now)) }
+    ensures fits { IfOk result (λ k. IfSome (model_of_table k) (λ t. fits t ≡ true)) }
+    ensures faults { IfOk result (λ k. (length (model_of_faults k) == 0) ≡ is_some (table_in (map (λ text. text.now) files.now))) }
 {
     let mut gathered = Gathered {
         rows: program_table(alloc)?.into_vec(),
@@ -49,8 +49,8 @@ pub fn table_of(alloc: Global, files: &[&[u8]]) -> Result<Kinds, Memory>
 }
 
 fn settled(gathered: Gathered) -> Kinds
-    ensures table { table_told result ≡ kept gathered }
-    ensures faults { (length (faults_told result) == 0) ≡ is_some (kept gathered) }
+    ensures table { model_of_table result ≡ kept gathered }
+    ensures faults { (length (model_of_faults result) == 0) ≡ is_some (kept gathered) }
 {
     let Gathered { rows, faults } = gathered;
     if faults.is_empty() {

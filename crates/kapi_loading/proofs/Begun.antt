@@ -1,12 +1,12 @@
 -- A machine at its start, with a desk or without one.
 use Rattle.std.proofs.Common.{◌≡◌, [], Result, Ok, Err, IsErrAnd, ◌∙◌, refl, subst, sym}
-use Rattle.kapi_text.specs.Gives.{Fails}
+use Rattle.kapi_text.specs.ResultIs.{Fails}
 use Rattle.kapi_core.specs.Machine.{Machine, policy_of}
 use Rattle.kapi_core.specs.Running.{Running}
 use Rattle.kapi_core.specs.Refines.{Refines}
-use Rattle.kapi_desk.specs.Boards.{Board, Chair, fresh}
-use Rattle.kapi_desk.specs.Steps.{after}
-use Rattle.kapi_loading.specs.Faults.{FileFault, fault_told}
+use Rattle.kapi_publishing.specs.Boards.{Board, Chair, fresh}
+use Rattle.kapi_publishing.specs.Steps.{after}
+use Rattle.kapi_loading.specs.Faults.{FileFault, model_of_fault}
 use Rattle.kapi_loading.specs.Loading.{HasPublished}
 use Rattle.kapi_loading.specs.Starting.{Holds}
 use Rattle.kapi_loading.specs.declared.fault.StartError.{StartError}
@@ -23,6 +23,6 @@ abbrev pub no_seat : Chair
 no_seat = record { desk = record { number = 0; log_name = 0; cells_name = 0 }; opening = no_objects; seen = [] }
 
 -- a fault that is handed on, if there is no core
-pub core_fault : (result : Result Running StartError) (e : StartError) (given : Result Machine FileFault) → IsErrAnd result (λ f. f ≡ e) → Fails (fault_told e) given → Holds result given
+pub core_fault : (result : Result Running StartError) (e : StartError) (given : Result Machine FileFault) → IsErrAnd result (λ f. f ≡ e) → Fails (model_of_fault e) given → Holds result given
 core_fault (Ok core) e given is h = absurd is
-core_fault (Err f) e given is h = subst (λ x. Fails (fault_told x) given) (sym is) h
+core_fault (Err f) e given is h = subst (λ x. Fails (model_of_fault x) given) (sym is) h

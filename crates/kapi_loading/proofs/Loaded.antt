@@ -1,8 +1,8 @@
 -- What a core reaches, and what is said of its policy, line by line and turn by turn.
 use Rattle.std.proofs.Common.{◌≡◌, ℕ, zero, suc, ◌+◌, List, ◌∷◌, Option, None, Some, Result, Ok, Err, IsErrAnd, map, refl, sym, ap, ◌∙◌, subst, add-one, drop, drop-cons, get_or, length, ◌<◌, ◌≤◌}
 use Rattle.std.proofs.lemmas.List.{drop_all}
-use Rattle.kapi_text.specs.Gives.{Fails, ◌>>=◌}
-use Rattle.kapi_loading.specs.Faults.{FileFault, bad_line, fault_told}
+use Rattle.kapi_text.specs.ResultIs.{Fails, ◌>>=◌}
+use Rattle.kapi_loading.specs.Faults.{FileFault, bad_line, model_of_fault}
 use Rattle.kapi_lines.specs.Lines.{NumberedLine, line_of}
 use Rattle.kapi_loading.specs.Loading.{Reaches, load_fault, loaded, made_by, made_of, turned}
 use Rattle.kapi_aggregation.specs.Rewriting.{rewriting}
@@ -26,8 +26,8 @@ use Rattle.kapi_policy.specs.Steps.{after_changes}
 use Rattle.kapi_policy.specs.declared.change.PolicyChange.{PolicyChange}
 use Rattle.kapi_store.specs.Faults.{StoreFault}
 use Rattle.kapi_store.specs.Plain.{PlainChange}
-use Rattle.kapi_guard.proofs.Writes.{policy_written, stands_in_order}
-use Rattle.kapi_guard.specs.Reading.{policy_changes}
+use Rattle.kapi_escalation.proofs.Writes.{policy_written, stands_in_order}
+use Rattle.kapi_escalation.specs.Reading.{policy_changes}
 use Rattle.kapi_lines.specs.declared.line.Line.{Line}
 use Rattle.kapi_loading.specs.declared.fault.StartError.{StartError}
 
@@ -68,14 +68,14 @@ refused_with Follows m lines i d core next fault below (k, said, stands, follows
 
 pub line_refused : (Follows : PolicyObjects → Type 0) (m : Machine) (lines : List Line) (i : ℕ) (d : Line) (core next : Running) (e : LoadError) (f : StartError)
     → i < length lines → LoadedUpTo Follows m lines i core → Loads core next (get_or lines i d).text.now (Err e) → f ≡ load_fault (get_or lines i d).number e
-    → Fails (fault_told f) (loaded m (map line_of lines))
+    → Fails (model_of_fault f) (loaded m (map line_of lines))
 line_refused Follows m lines i d core next error.UnknownKind f below h fails is =
-    subst (λ x. Fails (fault_told x) (loaded m (map line_of lines))) (sym is) (refused_with Follows m lines i d core next unknown_kind below h fails)
+    subst (λ x. Fails (model_of_fault x) (loaded m (map line_of lines))) (sym is) (refused_with Follows m lines i d core next unknown_kind below h fails)
 line_refused Follows m lines i d core next (error.Object refused) f below h fails is =
-    subst (λ x. Fails (fault_told x) (loaded m (map line_of lines))) (sym is) (refused_with Follows m lines i d core next (bad_object refused) below h fails)
+    subst (λ x. Fails (model_of_fault x) (loaded m (map line_of lines))) (sym is) (refused_with Follows m lines i d core next (bad_object refused) below h fails)
 line_refused Follows m lines i d core next (error.Store refused) f below h fails is =
-    subst (λ x. Fails (fault_told x) (loaded m (map line_of lines))) (sym is) (refused_with Follows m lines i d core next (not_stored refused) below h fails)
-line_refused Follows m lines i d core next error.Memory f below h fails is = subst (λ x. Fails (fault_told x) (loaded m (map line_of lines))) (sym is) tt
+    subst (λ x. Fails (model_of_fault x) (loaded m (map line_of lines))) (sym is) (refused_with Follows m lines i d core next (not_stored refused) below h fails)
+line_refused Follows m lines i d core next error.Memory f below h fails is = subst (λ x. Fails (model_of_fault x) (loaded m (map line_of lines))) (sym is) tt
 
 -- all lines are loaded
 pub all_loaded : (Follows : PolicyObjects → Type 0) (m : Machine) (lines : List Line) (i : ℕ) (core : Running) → length lines ≤ i → LoadedUpTo Follows m lines i core
@@ -141,9 +141,9 @@ fault_kept (Some e) given rest h = ap (λ r. r >>= rest) h
 
 -- a fault that is handed on
 pub reach_fault : (core : Running) (Follows : PolicyObjects → Type 0) (result : Result (Unit {0}) StartError) (e : StartError) (given : Result Machine FileFault)
-    → IsErrAnd result (λ f. f ≡ e) → Fails (fault_told e) given → Reaches core Follows result given
+    → IsErrAnd result (λ f. f ≡ e) → Fails (model_of_fault e) given → Reaches core Follows result given
 reach_fault core Follows (Ok done) e given is h = absurd is
-reach_fault core Follows (Err f) e given is h = subst (λ x. Fails (fault_told x) given) (sym is) h
+reach_fault core Follows (Err f) e given is h = subst (λ x. Fails (model_of_fault x) given) (sym is) h
 
 -- all lines are loaded, and then turns are made
 pub then_turned : (core next : Running) (Before After : PolicyObjects → Type 0) (result : Result (Unit {0}) StartError) (m : Machine) (lines : List NumberedLine)

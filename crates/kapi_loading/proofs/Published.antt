@@ -4,8 +4,8 @@ use Rattle.std.proofs.Math.Dec.{eqb-suc-zero}
 use Rattle.kapi_policy.specs.Objects.{PolicyObjects}
 use Rattle.kapi_policy.specs.Steps.{after_changes}
 use Rattle.kapi_policy.specs.declared.change.PolicyChange.{PolicyChange}
-use Rattle.kapi_desk.specs.Steps.{after}
-use Rattle.kapi_desk.proofs.Lists.{after_more}
+use Rattle.kapi_publishing.specs.Steps.{after}
+use Rattle.kapi_publishing.proofs.Lists.{after_more}
 
 -- one step more is published
 pub published_step : (opening next : PolicyObjects) (list more : List (List PolicyChange)) (step : List PolicyChange) → next ≡ opening → more ≡ list ++ step ∷ []

@@ -1,7 +1,7 @@
 -- The machine of a file has begun, loaded the file's objects, and made turns, and no connection was opened on it.
 use Rattle.std.proofs.Common.{◌≡◌, ℕ, zero, suc, Bool, false, List, [], ◌∷◌, map, Option, None, Some, Result, Ok, Err, IfOk, sym, ap, ◌∙◌, refl, subst}
 use Rattle.std.specs.Prelude.{replicate}
-use Rattle.kapi_text.specs.Gives.{◌>>=◌}
+use Rattle.kapi_text.specs.ResultIs.{◌>>=◌}
 use Rattle.kapi_aggregation.specs.Rewriting.{rewriting}
 use Rattle.kapi_aggregation.specs.Roles.{roles_in}
 use Rattle.kapi_aggregation.specs.Turns.{next}

@@ -1,8 +1,8 @@
 -- What a core has loaded, line by line.
 use Rattle.std.proofs.Common.{◌≡◌, ℕ, suc, ◌+◌, true, false, List, ◌∷◌, Option, None, Some, Result, Ok, Err, is_some, is_err, map, refl, sym, ap, ◌∙◌, subst, add-one, drop, drop-cons, get_or, length, ◌<◌, ◌≤◌}
 use Rattle.std.proofs.lemmas.List.{drop_all}
-use Rattle.kapi_text.specs.Gives.{Fails, ◌>>=◌}
-use Rattle.kapi_answer.specs.Load.{LoadFault, fault_told, loads}
+use Rattle.kapi_text.specs.ResultIs.{Fails, ◌>>=◌}
+use Rattle.kapi_answer.specs.Load.{LoadFault, model_of_fault, loads}
 use Rattle.kapi_answer.specs.declared.loading.LoadError.{LoadError}
 use Rattle.kapi_core.specs.Machine.{Machine, changed}
 use Rattle.kapi_core.specs.Opening.{opening}
@@ -32,13 +32,13 @@ line_loaded m lines i d core next made below (k, said, stands) loads_ok =
 
 -- a line is not loaded
 pub line_refused : (m : Machine) (lines : List Line) (i : ℕ) (d : Line) (core next : Running) (e : LoadError)
-    → i < length lines → LoadedTo m lines i core → Loads core next (get_or lines i d).text.now (Err e) → is_some (fault_told e) ≡ true
+    → i < length lines → LoadedTo m lines i core → Loads core next (get_or lines i d).text.now (Err e) → is_some (model_of_fault e) ≡ true
     → is_err (loaded m (map line_of lines)) ≡ true
 unfolding loaded
 line_refused m lines i d core next e below (k, said, stands) fails known =
     let l = get_or lines i d in
     let rest = map line_of (drop (suc i) lines) in
-    ap is_err (said ∙ ap (λ ls. loaded k (map line_of ls)) (drop-cons lines i d below)) ∙ by_fault (fault_told e) (loads k.store l.text.now) known (fails k stands).0
+    ap is_err (said ∙ ap (λ ls. loaded k (map line_of ls)) (drop-cons lines i d below)) ∙ by_fault (model_of_fault e) (loads k.store l.text.now) known (fails k stands).0
   where
     by_fault : (told : Option LoadFault) (given : Result _ LoadFault) → is_some told ≡ true → Fails told given
         → is_err (made_by (get_or lines i d).number k given >>= λ next. loaded next (map line_of (drop (suc i) lines))) ≡ true

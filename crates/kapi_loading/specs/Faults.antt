@@ -8,6 +8,6 @@ pub data FileFault : Type 0 where
   bad_line : ℕ → FileFault
 
 -- the fault that an error reports: none if it is out of memory
-abbrev pub fault_told : StartError → Option FileFault
-fault_told (fault.Line n) = Some (bad_line n)
-fault_told fault.Memory = None
+abbrev pub model_of_fault : StartError → Option FileFault
+model_of_fault (fault.Line n) = Some (bad_line n)
+model_of_fault fault.Memory = None

@@ -1,6 +1,6 @@
 -- The policy of a file: its lines loaded in order, and then the turns that follow.
 use Rattle.std.specs.Prelude.{◌≡◌, ℕ, zero, suc, List, [], ◌∷◌, Result, Ok, Err}
-use Rattle.kapi_text.specs.Gives.{Fails, ◌>>=◌}
+use Rattle.kapi_text.specs.ResultIs.{Fails, ◌>>=◌}
 use Rattle.kapi_answer.specs.Load.{LoadFault, loads}
 use Rattle.kapi_answer.specs.declared.loading.LoadError.{LoadError}
 use Rattle.kapi_answer.specs.declared.loading.LoadError.TheVariants as error
@@ -10,10 +10,10 @@ use Rattle.kapi_core.specs.Opening.{empty, opening}
 use Rattle.kapi_core.specs.Running.{Running}
 use Rattle.kapi_core.specs.Refines.{Refines}
 use Rattle.kapi_core.specs.declared.event.Event.TheVariants as event
-use Rattle.kapi_desk.specs.Boards.{Board, Chair, fresh}
-use Rattle.kapi_desk.specs.Steps.{after}
+use Rattle.kapi_publishing.specs.Boards.{Board, Chair, fresh}
+use Rattle.kapi_publishing.specs.Steps.{after}
 use Rattle.kapi_policy.specs.Objects.{PolicyObjects}
-use Rattle.kapi_loading.specs.Faults.{FileFault, bad_line, fault_told}
+use Rattle.kapi_loading.specs.Faults.{FileFault, bad_line, model_of_fault}
 use Rattle.kapi_core.specs.ProgramTable.{program_rows}
 use Rattle.kapi_model.specs.declared.row.ResourceRow.{ResourceRow}
 use Rattle.kapi_lines.specs.Lines.{NumberedLine, lines_of}
@@ -71,4 +71,4 @@ HasPublished seat desk policy = (fresh desk ≡ seat) × (desk.waiting ≡ []) �
 -- the core refines the machine that is given, whose policy has what is said of it; or why no machine is given
 abbrev pub Reaches : Running → (PolicyObjects → Type 0) → Result (Unit {0}) StartError → Result Machine FileFault → Type 0
 Reaches core Follows (Ok done) given = (m : Machine) × (given ≡ Ok m) × Refines core m × Follows (policy_of m)
-Reaches core Follows (Err e) given = Fails (fault_told e) given
+Reaches core Follows (Err e) given = Fails (model_of_fault e) given

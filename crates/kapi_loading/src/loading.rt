@@ -4,7 +4,7 @@ ghost use Rattle.kapi_core.specs.Machine.{Machine, policy_of};
 ghost use Rattle.kapi_core.specs.Refines.{Refines};
 ghost use Rattle.kapi_policy.specs.Objects.{PolicyObjects};
 ghost use Rattle.kapi_policy.specs.Steps.{after_changes};
-ghost use Rattle.kapi_desk.specs.Boards.{Chair};
+ghost use Rattle.kapi_publishing.specs.Boards.{Chair};
 ghost use Rattle.kapi_lines.specs.Lines.{line_of, lines_of};
 ghost use Rattle.kapi_loading.specs.Loading.{Reaches, load_fault, loaded, made_of, turned};
 

@@ -1,6 +1,6 @@
 //! Why the lines of a file are not loaded, in words.
 ghost use Rattle.std.specs.Prelude.{◌≡◌, ◌≤◌, true, IfOk, IfSome, OnOk, is_err, is_some, map, string_bytes};
-ghost use Rattle.kapi_answer.specs.Load.{fault_told};
+ghost use Rattle.kapi_answer.specs.Load.{model_of_fault};
 ghost use Rattle.kapi_core.specs.Machine.{Machine};
 ghost use Rattle.kapi_core.specs.Refines.{Refines};
 ghost use Rattle.kapi_core.specs.Table.{fits};
@@ -99,7 +99,7 @@ fn line_reason(
     line: &[u8],
     error: &LoadError,
 ) -> Result<String, Memory>
-    ensures fault { OnOk result (is_some (fault_told error.now) ≡ true) }
+    ensures fault { OnOk result (is_some (model_of_fault error.now) ≡ true) }
     ensures line { IfOk result (λ r. is_reason (string_bytes r) ≡ true) }
 {
     if let LoadError::Memory = error {

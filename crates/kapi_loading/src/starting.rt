@@ -1,5 +1,5 @@
 ghost use Rattle.std.specs.Prelude.{◌≡◌, ◌≤◌, true, [], IfOk, replicate, OnOk};
-ghost use Rattle.kapi_desk.specs.Boards.{fresh};
+ghost use Rattle.kapi_publishing.specs.Boards.{fresh};
 ghost use Rattle.kapi_core.specs.Machine.{Machine};
 ghost use Rattle.kapi_core.specs.Opening.{empty, opening};
 ghost use Rattle.kapi_core.specs.Refines.{Refines};
@@ -8,15 +8,15 @@ ghost use Rattle.kapi_lines.specs.Lines.{lines_of};
 ghost use Rattle.kapi_loading.specs.Loading.{machine_alone, machine_from, made_of, policy_machine};
 ghost use Rattle.kapi_loading.specs.Starting.{Holds, Starts};
 ghost use Rattle.kapi_policy.specs.Steps.{after_changes};
-ghost use Rattle.kapi_desk.specs.Steps.{after};
+ghost use Rattle.kapi_publishing.specs.Steps.{after};
 
 use crate::fault::StartError;
 use crate::loading::{Steps, Unpublished, load_file};
 use kapi_core::{Core, program_table};
-use kapi_desk::{Desk, Seat};
 use kapi_index::IndexedPolicy;
 use kapi_model::ResourceRow;
 use kapi_policy::PolicyStep;
+use kapi_publishing::{Desk, Seat};
 use kapi_text::{Memory, Sequence, TryCopy};
 use std::alloc::{AllocError, Global};
 use std::sync::Wait;

@@ -10,9 +10,9 @@ use Rattle.kapi_model.specs.declared.row.ResourceRow.{ResourceRow}
 use Rattle.kapi_manifests.specs.Kinds.{has_like_items, item_kind, kind_of, version_of}
 use Rattle.kapi_manifests.specs.Pieces.{pieces}
 use Rattle.kapi_manifests.specs.Sorting.{faults_if, item_of, namespace_if, object_if, sort_of}
-use Rattle.kapi_manifests.specs.declared.sorted.Found.{Found}
-use Rattle.kapi_manifests.specs.declared.sorted.Found.TheVariants as found
-use Rattle.kapi_manifests.specs.declared.sorted.Scope.{Scope}
+use Rattle.kapi_manifests.specs.declared.sorted.Piece.{Piece}
+use Rattle.kapi_manifests.specs.declared.sorted.Piece.TheVariants as found
+use Rattle.kapi_manifests.specs.declared.sorted.Selection.{Selection}
 use Rattle.kapi_manifests.specs.declared.sorted.Manifest.{Manifest}
 use Rattle.kapi_manifests.specs.declared.sorted.Options.{Options}
 use Rattle.kapi_manifests.specs.declared.sorted.Sorted.{Sorted}
@@ -115,25 +115,25 @@ abbrev pub data_of : Manifest → Data
 data_of m = view m.object
 
 -- the objects of what is found
-abbrev pub objects_found : Found → List Data
+abbrev pub objects_found : Piece → List Data
 objects_found (found.Objects ms) = map data_of ms.items
 objects_found (found.Fault f) = []
 
 -- how many faults are found
-abbrev pub faults_found : Found → ℕ
+abbrev pub faults_found : Piece → ℕ
 faults_found (found.Objects ms) = 0
 faults_found (found.Fault f) = 1
 
 -- the namespaces among objects
-abbrev pub namespaces_among : List ResourceRow → Scope → List ℕ → List Data → List Data
+abbrev pub namespaces_among : List ResourceRow → Selection → List ℕ → List Data → List Data
 namespaces_among table scope given ds = flat_map (λ d. namespace_if (sort_of table scope given d) d) ds
 
 -- the other objects that are loaded, as they are loaded
-abbrev pub loaded_among : List ResourceRow → Scope → List ℕ → List Data → List Data
+abbrev pub loaded_among : List ResourceRow → Selection → List ℕ → List Data → List Data
 loaded_among table scope given ds = flat_map (λ d. object_if (sort_of table scope given d) given d) ds
 
 -- how many objects are faults
-abbrev pub faults_among : List ResourceRow → Scope → List ℕ → List Data → ℕ
+abbrev pub faults_among : List ResourceRow → Selection → List ℕ → List Data → ℕ
 faults_among table scope given ds = sum_of (λ d. faults_if (sort_of table scope given d)) ds
 
 -- objects were taken, in order, and so many pieces that are faults

@@ -3,7 +3,7 @@ pub mod Pieces
 pub mod Kinds
 pub mod Sorting
 pub mod Files
-pub mod Standing
+pub mod DefaultObjects
 pub mod Made
 pub mod Dangling
 pub mod Written

@@ -4,13 +4,13 @@ use Rattle.serde_json.specs.Data.{Data, string, object, Members, no_members, put
 use Rattle.serde_json.specs.Find.{as_object, get}
 use Rattle.kapi_model.specs.declared.row.ResourceRow.{ResourceRow}
 use Rattle.kapi_manifests.specs.Kinds.{is_namespace, is_policy, kind_of, lives_in_namespace, metadata_text, version_of}
-use Rattle.kapi_manifests.specs.declared.sorted.Scope.{Scope}
-use Rattle.kapi_manifests.specs.declared.sorted.Scope.TheVariants.{Policy, All}
+use Rattle.kapi_manifests.specs.declared.sorted.Selection.{Selection}
+use Rattle.kapi_manifests.specs.declared.sorted.Selection.TheVariants.{Policy, All}
 use Rattle.kapi_manifests.specs.declared.sorted.Sort.{Sort}
 use Rattle.kapi_manifests.specs.declared.sorted.Sort.TheVariants as sort
 
 -- only what counts for policy is loaded
-abbrev pub is_for_policy : Scope → Bool
+abbrev pub is_for_policy : Selection → Bool
 is_for_policy Policy = true
 is_for_policy All = false
 
@@ -23,13 +23,13 @@ abbrev pub is_homeless : List ResourceRow → Data → Bool
 is_homeless table d = lives_in_namespace table d && (length (metadata_text (codes "namespace") d) == 0)
 
 -- what an object is that is no namespace
-abbrev pub sort_of_object : List ResourceRow → Scope → List ℕ → Data → Sort
+abbrev pub sort_of_object : List ResourceRow → Selection → List ℕ → Data → Sort
 sort_of_object table scope given d =
     if is_for_policy scope && not (is_policy d) then sort.Skipped
     else (if is_homeless table d then sort_without_namespace given else sort.Loaded)
 
 -- what an object is by a table of resource types, if objects without a namespace get the one that is given
-unfoldable pub sort_of : List ResourceRow → Scope → List ℕ → Data → Sort
+unfoldable pub sort_of : List ResourceRow → Selection → List ℕ → Data → Sort
 sort_of table scope given d =
     if (length (kind_of d) == 0) || (length (version_of d) == 0) then sort.Nameless
     else (if is_namespace d then sort.Namespace else sort_of_object table scope given d)

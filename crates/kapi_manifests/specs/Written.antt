@@ -8,12 +8,12 @@ use Rattle.kapi_manifests.specs.Dangling.{dangling, origin_of}
 use Rattle.kapi_manifests.specs.Files.{bad_pieces, data_of, faults_among, loaded_among, namespaces_among, objects_of, sum_of}
 use Rattle.kapi_manifests.specs.Kinds.{kind_of}
 use Rattle.kapi_manifests.specs.Made.{made}
-use Rattle.kapi_manifests.specs.Standing.{standing_among, standing_namespaces, standing_objects}
+use Rattle.kapi_manifests.specs.DefaultObjects.{defaults_among, default_namespace_objects, all_default_objects}
 use Rattle.kapi_manifests.specs.declared.fault.Origin.{Origin}
 use Rattle.kapi_manifests.specs.declared.prepared.Lines.{Lines}
 use Rattle.kapi_manifests.specs.declared.prepared.Prepared.{Prepared}
 use Rattle.kapi_manifests.specs.declared.sorted.Manifest.{Manifest}
-use Rattle.kapi_manifests.specs.declared.sorted.Scope.{Scope}
+use Rattle.kapi_manifests.specs.declared.sorted.Selection.{Selection}
 use Rattle.kapi_manifests.specs.declared.sorted.Sorted.{Sorted}
 
 -- the text reads as the object, unless that nests deeper than a text may
@@ -35,15 +35,15 @@ abbrev pub objects_in_all : List (List ℕ) → List Data
 objects_in_all texts = flat_map objects_of texts
 
 -- how many faults files have
-abbrev pub faults_in_all : List ResourceRow → Scope → List ℕ → List (List ℕ) → ℕ
+abbrev pub faults_in_all : List ResourceRow → Selection → List ℕ → List (List ℕ) → ℕ
 faults_in_all table scope given texts = sum_of bad_pieces texts + faults_among table scope given (objects_in_all texts)
 
 -- what is loaded of namespaces and other objects: the namespaces, beside those that every policy has; those that the
 -- objects live in besides; the roles and bindings that stand beneath, if the objects have no others; the objects
 pub record Loaded (table : List ResourceRow) (defaults : Bool) (namespaces : List Manifest) (objects : List Manifest) (ds : List Data) : Type 0 where
   pub homes : List Manifest
-  pub are_homes : map data_of homes ≡ standing_among (map data_of namespaces) standing_namespaces ++ map data_of namespaces
-  pub all : ds ≡ map data_of homes ++ (made table homes objects ++ (standing_among (map data_of objects) (standing_objects defaults) ++ map data_of objects))
+  pub are_homes : map data_of homes ≡ defaults_among (map data_of namespaces) default_namespace_objects ++ map data_of namespaces
+  pub all : ds ≡ map data_of homes ++ (made table homes objects ++ (defaults_among (map data_of objects) (all_default_objects defaults) ++ map data_of objects))
 
 -- the object is of one of two kinds
 abbrev pub is_either : List ℕ → List ℕ → Data → Bool
@@ -59,7 +59,7 @@ bindings_among ds = length (filter (is_either (codes "RoleBinding") (codes "Clus
 -- where the bindings begin whose role is neither among the objects nor beneath them
 pub record IsDangling (defaults : Bool) (origins : List Origin) (objects : List Manifest) : Type 0 where
   pub others : List Manifest
-  pub are_others : map data_of others ≡ standing_among [] (standing_objects defaults)
+  pub are_others : map data_of others ≡ defaults_among [] (all_default_objects defaults)
   pub all : origins ≡ dangling others objects
 
 -- sorted objects are written as lines
@@ -74,7 +74,7 @@ pub record IsWritten (table : List ResourceRow) (defaults : Bool) (s : Sorted) (
   pub dangling : IsDangling defaults (map origin_of p.dangling.items) s.objects.items
 
 -- what is loaded of files by a table of resource types, with the default roles beneath them or not, and a place for each line
-pub record Loads (table : List ResourceRow) (scope : Scope) (given : List ℕ) (defaults : Bool) (texts : List (List ℕ)) (p : Prepared) : Type 0 where
+pub record Loads (table : List ResourceRow) (scope : Selection) (given : List ℕ) (defaults : Bool) (texts : List (List ℕ)) (p : Prepared) : Type 0 where
   pub namespaces : List Manifest
   pub objects : List Manifest
   pub all : List Data

@@ -1,9 +1,9 @@
 //! Kubernetes' user-facing cluster roles ('Using RBAC Authorization', 'User-facing roles'), as an API server of version 1.20.2
 //! writes them. tools/default_roles.py makes this file.
 ghost use Rattle.std.specs.Prelude.{◌≡◌, map};
-ghost use Rattle.kapi_manifests.specs.Standing as standing;
+ghost use Rattle.kapi_manifests.specs.DefaultObjects as default_objects;
 
-use crate::standing::Standing;
+use crate::default_objects::DefaultObject;
 
 const ADMIN: &str =
     r#"{"apiVersion":"rbac.authorization.k8s.io/v1","kind":"ClusterRole","metadata":{"name":"admin","labels":{"kubernetes.io/bootstrapping":"rbac-defaults"}},"aggregationRule":{"clusterRoleSelectors":[{"matchLabels":{"rbac.authorization.k8s.io/aggregate-to-admin":"true"}}]}}"#;
@@ -24,37 +24,37 @@ const AGGREGATE_TO_VIEW: &str =
     r#"{"apiVersion":"rbac.authorization.k8s.io/v1","kind":"ClusterRole","metadata":{"name":"system:aggregate-to-view","labels":{"kubernetes.io/bootstrapping":"rbac-defaults","rbac.authorization.k8s.io/aggregate-to-view":"true"}},"rules":[{"apiGroups":[""],"resources":["configmaps","endpoints","persistentvolumeclaims","persistentvolumeclaims/status","pods","replicationcontrollers","replicationcontrollers/scale","serviceaccounts","services","services/status"],"verbs":["get","list","watch"]},{"apiGroups":[""],"resources":["bindings","events","limitranges","namespaces/status","pods/log","pods/status","replicationcontrollers/status","resourcequotas","resourcequotas/status"],"verbs":["get","list","watch"]},{"apiGroups":[""],"resources":["namespaces"],"verbs":["get","list","watch"]},{"apiGroups":["apps"],"resources":["controllerrevisions","daemonsets","daemonsets/status","deployments","deployments/scale","deployments/status","replicasets","replicasets/scale","replicasets/status","statefulsets","statefulsets/scale","statefulsets/status"],"verbs":["get","list","watch"]},{"apiGroups":["autoscaling"],"resources":["horizontalpodautoscalers","horizontalpodautoscalers/status"],"verbs":["get","list","watch"]},{"apiGroups":["batch"],"resources":["cronjobs","cronjobs/status","jobs","jobs/status"],"verbs":["get","list","watch"]},{"apiGroups":["extensions"],"resources":["daemonsets","daemonsets/status","deployments","deployments/scale","deployments/status","ingresses","ingresses/status","networkpolicies","replicasets","replicasets/scale","replicasets/status","replicationcontrollers/scale"],"verbs":["get","list","watch"]},{"apiGroups":["policy"],"resources":["poddisruptionbudgets","poddisruptionbudgets/status"],"verbs":["get","list","watch"]},{"apiGroups":["networking.k8s.io"],"resources":["ingresses","ingresses/status","networkpolicies"],"verbs":["get","list","watch"]}]}"#;
 
 /// The roles `admin`, `edit` and `view`, and those that they are put together of.
-#[tactic(auto, unfolding(crate::specs::Standing::default_roles))]
-pub fn default_roles() -> [Standing; 6]
-    ensures { map standing.object_told result ≡ standing.default_roles }
+#[tactic(auto, unfolding(crate::specs::DefaultObjects::default_roles))]
+pub fn default_roles() -> [DefaultObject; 6]
+    ensures { map default_objects.model_of_object result ≡ default_objects.default_roles }
 {
     [
-        Standing {
+        DefaultObject {
             kind: "ClusterRole",
             name: "admin",
             text: ADMIN,
         },
-        Standing {
+        DefaultObject {
             kind: "ClusterRole",
             name: "edit",
             text: EDIT,
         },
-        Standing {
+        DefaultObject {
             kind: "ClusterRole",
             name: "view",
             text: VIEW,
         },
-        Standing {
+        DefaultObject {
             kind: "ClusterRole",
             name: "system:aggregate-to-admin",
             text: AGGREGATE_TO_ADMIN,
         },
-        Standing {
+        DefaultObject {
             kind: "ClusterRole",
             name: "system:aggregate-to-edit",
             text: AGGREGATE_TO_EDIT,
         },
-        Standing {
+        DefaultObject {
             kind: "ClusterRole",
             name: "system:aggregate-to-view",
             text: AGGREGATE_TO_VIEW,

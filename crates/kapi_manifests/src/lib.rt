@@ -3,6 +3,7 @@
 
 mod cut;
 mod dangling;
+mod default_objects;
 mod defaults;
 mod fault;
 mod kinds;
@@ -13,7 +14,6 @@ mod prepared;
 mod reader_state;
 mod reading;
 mod sorted;
-mod standing;
 mod words;
 
 pub use dangling::Dangling;
@@ -21,5 +21,5 @@ pub use fault::{Fault, Origin, Reason};
 pub use kinds::text_at;
 pub use prepared::{Prepared, prepare};
 pub use reading::{Objects, read_objects};
-pub use sorted::{Manifest, Options, Scope};
+pub use sorted::{Manifest, Options, Selection};
 pub use words::Words;

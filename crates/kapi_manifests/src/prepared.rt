@@ -3,19 +3,21 @@ ghost use Rattle.std.specs.Prelude.{◌≡◌, Bool, ◌+◌, ◌++◌, IfOk, On
 ghost use Rattle.kapi_manifests.specs.Files.{Takes, bad_pieces, data_of, sum_of};
 ghost use Rattle.kapi_manifests.specs.Dangling.{origin_of};
 ghost use Rattle.kapi_manifests.specs.Made.{made};
-ghost use Rattle.kapi_manifests.specs.Standing.{object_told, standing_among, standing_namespaces, standing_objects};
+ghost use Rattle.kapi_manifests.specs.DefaultObjects.{model_of_object, defaults_among, default_namespace_objects, all_default_objects};
 ghost use Rattle.kapi_manifests.specs.Written as written;
 ghost use Rattle.serde_json.specs.View.{view};
 ghost use Rattle.kapi_manifests.specs.Written.{AreOf, IsDangling, IsWritten, Loads, faults_in_all, objects_in_all};
 ghost use Rattle.serde_json.specs.Data.{Data};
 
 use crate::dangling::{Dangling, dangling_bindings};
+use crate::default_objects::{
+    DefaultObject, all_default_objects, default_namespace_objects, defaults_beside,
+};
 use crate::fault::{Fault, Origin};
 use crate::kinds::text_at;
 use crate::namespaces::made_namespaces;
 use crate::reading::take_file;
 use crate::sorted::{Manifest, Options, Sorted};
-use crate::standing::{Standing, standing_beside, standing_namespaces, standing_objects};
 use crate::words::Words;
 use kapi_model::ResourceRow;
 use kapi_text::{Memory, Text};
@@ -83,21 +85,21 @@ fn write(alloc: Global, options: Options<'_>, sorted: Sorted) -> Result<Prepared
     } = sorted;
     let roles = count_of(objects.as_slice(), "Role", "ClusterRole");
     let bindings = count_of(objects.as_slice(), "RoleBinding", "ClusterRoleBinding");
-    let standing = standing_objects(alloc, options.defaults)?;
-    let standing = standing.as_slice();
+    let default_objects = all_default_objects(alloc, options.defaults)?;
+    let default_objects = default_objects.as_slice();
     let words = words_of(
         alloc,
         options,
-        standing,
+        default_objects,
         namespaces.as_slice(),
         objects.as_slice(),
     )?;
     let homes = homes(alloc, namespaces)?;
-    let dangling = dangling_beside(alloc, standing, objects.as_slice())?;
+    let dangling = dangling_beside(alloc, default_objects, objects.as_slice())?;
     let lines = write_lines(
         alloc,
         options.kinds,
-        standing,
+        default_objects,
         homes.as_slice(),
         objects.as_slice(),
     )?;
@@ -117,11 +119,11 @@ fn write(alloc: Global, options: Options<'_>, sorted: Sorted) -> Result<Prepared
 fn words_of(
     alloc: Global,
     options: Options<'_>,
-    standing: &[Standing],
+    default_objects: &[DefaultObject],
     namespaces: &[Manifest],
     objects: &[Manifest],
 ) -> Result<Words, Memory> {
-    let others = standing_beside(alloc, standing, &[])?;
+    let others = defaults_beside(alloc, default_objects, &[])?;
     let mut words = Words::new(alloc);
     if options.words {
         for row in options.kinds {
@@ -137,13 +139,13 @@ fn words_of(
 /// The bindings whose role is neither among the objects nor beneath them.
 fn dangling_beside(
     alloc: Global,
-    standing: &[Standing],
+    default_objects: &[DefaultObject],
     objects: &[Manifest],
 ) -> Result<Vec<Dangling>, Memory>
-    ensures { (defaults : Bool) → map object_told standing.now ≡ standing_objects defaults
+    ensures { (defaults : Bool) → map model_of_object default_objects.now ≡ all_default_objects defaults
         → IfOk result (λ v. IsDangling defaults (map origin_of v.items) objects.now) }
 {
-    let others = standing_beside(alloc, standing, &[])?;
+    let others = defaults_beside(alloc, default_objects, &[])?;
     dangling_bindings(alloc, others.as_slice(), objects)
 }
 
@@ -168,26 +170,26 @@ fn is_either(object: &Value, kind: &str, other: &str) -> bool
 
 /// The namespaces, behind those that every policy has.
 fn homes(alloc: Global, namespaces: Vec<Manifest>) -> Result<Vec<Manifest>, Memory>
-    ensures { IfOk result (λ v. map data_of v.items ≡ standing_among (map data_of namespaces.items) standing_namespaces ++ map data_of namespaces.items) }
+    ensures { IfOk result (λ v. map data_of v.items ≡ defaults_among (map data_of namespaces.items) default_namespace_objects ++ map data_of namespaces.items) }
 {
-    let mut homes = standing_beside(alloc, &standing_namespaces(), namespaces.as_slice())?;
+    let mut homes = defaults_beside(alloc, &default_namespace_objects(), namespaces.as_slice())?;
     let mut namespaces = namespaces;
     homes.append(&mut namespaces)?;
     Ok(homes)
 }
 
-/// The lines of the namespaces, given and made, of the standing roles and bindings, and of the objects.
+/// The lines of the namespaces, given and made, of the default roles and bindings, and of the objects.
 fn write_lines(
     alloc: Global,
     table: &[ResourceRow],
-    standing: &[Standing],
+    default_objects: &[DefaultObject],
     homes: &[Manifest],
     objects: &[Manifest],
 ) -> Result<Lines, Memory>
-    ensures { IfOk result (λ l. AreOf l (map data_of homes.now ++ (made table.now homes.now objects.now ++ (standing_among (map data_of objects.now) (map object_told standing.now) ++ map data_of objects.now)))) }
+    ensures { IfOk result (λ l. AreOf l (map data_of homes.now ++ (made table.now homes.now objects.now ++ (defaults_among (map data_of objects.now) (map model_of_object default_objects.now) ++ map data_of objects.now)))) }
 {
     let made = made_namespaces(alloc, table, homes, objects)?;
-    let beneath = standing_beside(alloc, standing, objects)?;
+    let beneath = defaults_beside(alloc, default_objects, objects)?;
     let mut lines = Lines::new(alloc);
     lines.push_all(alloc, homes)?;
     lines.push_all(alloc, made.as_slice())?;

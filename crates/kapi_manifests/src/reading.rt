@@ -8,7 +8,7 @@ ghost use Rattle.kapi_manifests.specs.Pieces.{piece_in, pieces};
 use crate::cut::{Span, spans};
 use crate::fault::{Fault, Origin, Reason};
 use crate::list::objects_of;
-use crate::sorted::{Found, Manifest, Options, Sorted};
+use crate::sorted::{Manifest, Options, Piece, Sorted};
 use kapi_text::Memory;
 use serde_json::{Error, Value};
 use std::alloc::{AllocError, Global};
@@ -54,16 +54,16 @@ pub fn read_objects(alloc: Global, file: usize, text: &[u8]) -> Result<Objects, 
 }
 
 /// Keeps what a piece is.
-fn keep_found(all: &mut Objects, found: Found) -> Result<(), Memory>
+fn keep_found(all: &mut Objects, found: Piece) -> Result<(), Memory>
     ensures objects { OnOk result (map data_of all.new.objects.items ≡ map data_of all.old.objects.items ++ objects_found found) }
     ensures faults { OnOk result (length all.new.faults.items ≡ length all.old.faults.items + faults_found found) }
 {
     match found {
-        Found::Objects(objects) => {
+        Piece::Objects(objects) => {
             let mut objects = objects;
             all.objects.append(&mut objects)?;
         }
-        Found::Fault(fault) => all.faults.push(fault)?,
+        Piece::Fault(fault) => all.faults.push(fault)?,
     }
     Ok(())
 }
@@ -175,7 +175,7 @@ fn is_yaml_byte(byte: u8) -> bool
 
 /// What a piece is; its column is looked for if it is shown.
 #[tactic(auto, unfolding(crate::specs::Files::read_piece))]
-fn read_span(alloc: Global, source: Source<'_>, span: Span, shown: bool) -> Result<Found, Memory>
+fn read_span(alloc: Global, source: Source<'_>, span: Span, shown: bool) -> Result<Piece, Memory>
     ensures objects { IfOk result (λ f. objects_found f ≡ objects_read (read_piece (piece_in source.entry.text.now span))) }
     ensures faults { IfOk result (λ f. faults_found f ≡ faults_read (read_piece (piece_in source.entry.text.now span))) }
 {
@@ -183,7 +183,7 @@ fn read_span(alloc: Global, source: Source<'_>, span: Span, shown: bool) -> Resu
     let text = text_of(source.text, span);
     if first_byte(text) != b'{' {
         let reason = stray_reason(source);
-        return Ok(Found::Fault(Fault { origin, reason }));
+        return Ok(Piece::Fault(Fault { origin, reason }));
     }
     match Value::from_slice(alloc, text) {
         Ok(document) => found_in(alloc, origin, text, document),
@@ -193,21 +193,21 @@ fn read_span(alloc: Global, source: Source<'_>, span: Span, shown: bool) -> Resu
             }
             let before = column_before(source, span, shown);
             let reason = json_reason(origin.line, before, &error);
-            Ok(Found::Fault(Fault { origin, reason }))
+            Ok(Piece::Fault(Fault { origin, reason }))
         }
     }
 }
 
 /// The objects of a document, or the fault that it is.
-fn found_in(alloc: Global, origin: Origin, text: &[u8], document: Value) -> Result<Found, Memory>
+fn found_in(alloc: Global, origin: Origin, text: &[u8], document: Value) -> Result<Piece, Memory>
     ensures objects { IfOk result (λ f. objects_found f ≡ objects_read (files.document (view document))) }
     ensures faults { IfOk result (λ f. faults_found f ≡ faults_read (files.document (view document))) }
 {
     match objects_of(alloc, origin, text, document)? {
-        Some(objects) => Ok(Found::Objects(objects)),
+        Some(objects) => Ok(Piece::Objects(objects)),
         None => {
             let reason = Reason::Items;
-            Ok(Found::Fault(Fault { origin, reason }))
+            Ok(Piece::Fault(Fault { origin, reason }))
         }
     }
 }

@@ -15,7 +15,7 @@ use std::collections::BTreeMap;
 
 /// Which objects are loaded.
 #[derive(Clone, Copy, PartialEq, Eq)]
-pub enum Scope {
+pub enum Selection {
     /// Namespaces, and what says something about policy; the others are counted.
     Policy,
     /// All objects.
@@ -25,7 +25,7 @@ pub enum Scope {
 /// How files are read.
 #[derive(Clone, Copy)]
 pub struct Options<'a> {
-    pub scope: Scope,
+    pub scope: Selection,
     /// The resource types that are served, by which it is known what lives in a namespace.
     pub kinds: &'a [ResourceRow],
     /// The namespace of objects that name none and live in one; empty if none is given.
@@ -45,7 +45,7 @@ pub struct Manifest {
 
 /// What a piece of a file is: its objects, or a fault.
 #[derive(Drop)]
-pub enum Found {
+pub enum Piece {
     Objects(Vec<Manifest>),
     Fault(Fault),
 }
@@ -112,12 +112,12 @@ fn is_homeless(table: &[ResourceRow], object: &Value) -> bool
     lives_in_namespace(table, object) && metadata_text(object, "namespace").is_empty()
 }
 
-fn is_for_policy(scope: Scope) -> bool
+fn is_for_policy(scope: Selection) -> bool
     ensures { result ≡ sorting.is_for_policy scope }
 {
     match scope {
-        Scope::Policy => true,
-        Scope::All => false,
+        Selection::Policy => true,
+        Selection::All => false,
     }
 }
 
@@ -151,13 +151,13 @@ impl Sorted {
         &mut self,
         alloc: Global,
         options: Options<'_>,
-        found: Found,
+        found: Piece,
     ) -> Result<(), Memory>
         ensures { OnOk result (Takes options.entry self.old self.new (objects_found found) (faults_found found)) }
     {
         match found {
-            Found::Objects(objects) => self.take_all(alloc, options, objects),
-            Found::Fault(fault) => self.refuse(fault.origin, fault.reason),
+            Piece::Objects(objects) => self.take_all(alloc, options, objects),
+            Piece::Fault(fault) => self.refuse(fault.origin, fault.reason),
         }
     }
 

@@ -11,7 +11,7 @@ use Rattle.kapi_missing.proofs.Meets.{at_and_front, at_same, at_some, some_at}
 use Rattle.kapi_missing.specs.Private.Left.{AreClasses, AreRows, IsCounted, IsRow, Sees, atoms_behind, atoms_of, entries_in, item, items_in, left, meets_every}
 use Rattle.kapi_missing.specs.Private.Numbers.{has_bit, some_has}
 use Rattle.kapi_missing.specs.Private.Stoppers.{Item, Stopper, at, meets}
-use Rattle.kapi_missing.specs.declared.rows.Part.{Part}
+use Rattle.kapi_missing.specs.declared.rows.ListEntry.{ListEntry}
 use Rattle.kapi_missing.specs.declared.tree.Class.{Class}
 use Rattle.kapi_missing.specs.declared.tree.Entry.{Entry}
 use Rattle.kapi_missing.specs.declared.tree.Level.{Level}
@@ -213,7 +213,7 @@ take_all (x ∷ xs) (suc k) past = ap (λ r. x ∷ r) (take_all xs k (omega (ari
 pub all_entries : (entries : List Entry) (k : ℕ) → length entries ≤ k → entries_in (take k entries) ≡ entries_in entries
 all_entries entries k past = ap entries_in (take_all entries k past)
 
-pub entered : (entries more : List Entry) (e : Entry) (parts : List Part) → more ≡ entries ++ e ∷ [] → entries_in entries ≡ items_in parts → entries_in more ≡ items_in (parts ++ e.part ∷ [])
+pub entered : (entries more : List Entry) (e : Entry) (parts : List ListEntry) → more ≡ entries ++ e ∷ [] → entries_in entries ≡ items_in parts → entries_in more ≡ items_in (parts ++ e.part ∷ [])
 entered entries more e parts is were = ap entries_in is ∙ entries_push entries e ∙ rw were (sym (items_push parts e.part))
 
 -- the atom of an entry of the last list

@@ -16,13 +16,13 @@ use Rattle.kapi_missing.specs.Private.Once.{HasWords, is_in, once_each, with_wor
 use Rattle.kapi_missing.specs.Private.Stoppers.{names_item, word_in}
 use Rattle.kapi_missing.specs.declared.rows.List.{List as Of}
 use Rattle.kapi_missing.specs.declared.rows.List.TheVariants as of
-use Rattle.kapi_missing.specs.declared.rows.Part.{Part}
+use Rattle.kapi_missing.specs.declared.rows.ListEntry.{ListEntry}
 
 map_push : (list : Of) (words : List (List ℕ)) (word : List ℕ) → map (word_in list) (words ++ word ∷ []) ≡ map (word_in list) words ++ word_in list word ∷ []
 map_push list [] word = refl
 map_push list (w ∷ words) word = ap (λ r. word_in list w ∷ r) (map_push list words word)
 
-pub items_push : (parts : List Part) (p : Part) → items_in (parts ++ p ∷ []) ≡ items_in parts ++ item p ∷ []
+pub items_push : (parts : List ListEntry) (p : ListEntry) → items_in (parts ++ p ∷ []) ≡ items_in parts ++ item p ∷ []
 items_push [] p = refl
 items_push (q ∷ parts) p = ap (λ r. item q ∷ r) (items_push parts p)
 
@@ -32,7 +32,7 @@ last_first true false = refl
 last_first false true = refl
 last_first false false = refl
 
-pub pushed : (list : Of) (parts more : List Part) (p : Part) (old new : BTreeSet (Bor (List ℕ))) (words : List (List ℕ)) (word : List ℕ) → is_in old word ≡ false
+pub pushed : (list : Of) (parts more : List ListEntry) (p : ListEntry) (old new : BTreeSet (Bor (List ℕ))) (words : List (List ℕ)) (word : List ℕ) → is_in old word ≡ false
     → more ≡ parts ++ p ∷ [] → item p ≡ word_in list word → ((w : List ℕ) → is_in new w ≡ (bytes_eq word w || is_in old w))
     → items_in parts ≡ map (word_in list) words → HasWords old words → (items_in more ≡ map (word_in list) (with_word words word)) × HasWords new (with_word words word)
 pushed list parts more p old new words word absent is one grown were has = (
@@ -43,7 +43,7 @@ pushed list parts more p old new words word absent is one grown were has = (
     fresh : list_any (bytes_eq word) words ≡ false
     fresh = sym (has word) ∙ absent
 
-pub stays : (list : Of) (parts : List Part) (old : BTreeSet (Bor (List ℕ))) (words : List (List ℕ)) (word : List ℕ) → is_in old word ≡ true
+pub stays : (list : Of) (parts : List ListEntry) (old : BTreeSet (Bor (List ℕ))) (words : List (List ℕ)) (word : List ℕ) → is_in old word ≡ true
     → items_in parts ≡ map (word_in list) words → HasWords old words → (items_in parts ≡ map (word_in list) (with_word words word)) × HasWords old (with_word words word)
 stays list parts old words word there were has = rw (sym (has word) ∙ there) (were, has)
 

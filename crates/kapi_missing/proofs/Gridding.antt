@@ -21,7 +21,7 @@ use Rattle.kapi_missing.specs.Private.Stoppers.{Item, Stopper, at, meets}
 use Rattle.kapi_missing.specs.declared.grid.Column.{Column}
 use Rattle.kapi_missing.specs.declared.grid.Columns.{Columns}
 use Rattle.kapi_missing.specs.declared.grid.Placed.{Placed}
-use Rattle.kapi_missing.specs.declared.rows.Part.{Part}
+use Rattle.kapi_missing.specs.declared.rows.ListEntry.{ListEntry}
 
 -- ---- places
 
@@ -52,7 +52,7 @@ items_push : (entries : List Placed) (e : Placed) → placed_items (entries ++ e
 items_push [] e = refl
 items_push (x ∷ entries) e = ap (λ r. item x.part ∷ r) (items_push entries e)
 
-pub placed_parts : (entries new : List Placed) (e : Placed) (parts : List Part) → new ≡ entries ++ e ∷ [] → placed_items entries ≡ items_in parts → placed_items new ≡ items_in (parts ++ e.part ∷ [])
+pub placed_parts : (entries new : List Placed) (e : Placed) (parts : List ListEntry) → new ≡ entries ++ e ∷ [] → placed_items entries ≡ items_in parts → placed_items new ≡ items_in (parts ++ e.part ∷ [])
 placed_parts entries new e parts is were = ap placed_items is ∙ items_push entries e ∙ rw were (sym (parts_push parts e.part))
 
 pub columns_push : (all : List Stopper) (columns : List Column) (c : Column) → AreColumns all columns → Sees all (meets (item c.part)) c.rules.items → AreColumns all (columns ++ c ∷ [])

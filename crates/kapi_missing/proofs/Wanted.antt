@@ -17,7 +17,7 @@ use Rattle.kapi_missing.specs.Private.Numbers.{has_bit}
 use Rattle.kapi_missing.specs.Private.Once.{once, once_each}
 use Rattle.kapi_missing.specs.Private.Stoppers.{Item, Stopper, at, earlier_one, held_one, stoppers}
 use Rattle.kapi_missing.specs.declared.index.Rules.{Rules}
-use Rattle.kapi_missing.specs.declared.rows.Part.{Part}
+use Rattle.kapi_missing.specs.declared.rows.ListEntry.{ListEntry}
 
 pub next_number : (n k : ℕ) → nat_lt n (k + 1) ≡ (nat_lt n k || (k == n))
 next_number n k = grind (arith, nat_tests)
@@ -81,7 +81,7 @@ take_all [] (suc k) past = refl
 take_all (x ∷ xs) zero past = absurd (omega (arith, past))
 take_all (x ∷ xs) (suc k) past = ap (λ r. x ∷ r) (take_all xs k (omega (arith, past)))
 
-pub all_left : (all : List Stopper) (lists listed : List (List Item)) (chosen : List Part) (old new : List Atom) → listed ≡ lists → chosen ≡ []
+pub all_left : (all : List Stopper) (lists listed : List (List Item)) (chosen : List ListEntry) (old new : List Atom) → listed ≡ lists → chosen ≡ []
     → new ≡ old ++ atoms_behind (items_in chosen) (left all (λ s. true) listed) → new ≡ old ++ left_atoms all lists
 all_left all lists listed chosen old new is none grown = rw (sym is) (grown ∙ ap (λ c. old ++ atoms_behind (items_in c) (left all (λ s. true) listed)) none)
 

@@ -12,7 +12,7 @@ ghost use Rattle.kapi_missing.specs.Private.Stoppers.{Stopper, meets};
 
 use crate::index::Rules;
 use crate::numbers::{common, first_numbers, is_set, no_numbers, or_at, word_at};
-use crate::rows::{List, Part, names, parts, row};
+use crate::rows::{List, ListEntry, names, parts, row};
 use crate::tree::push_atom;
 use kapi_model::PolicyRule;
 use kapi_rules::Atom;
@@ -27,7 +27,7 @@ const STEPS: usize = 1 << 31;
 /// An entry of the wanted rules, and the numbers of the rules that meet it.
 #[derive(Drop)]
 pub struct Column<'a> {
-    pub part: Part<'a>,
+    pub part: ListEntry<'a>,
     pub rules: Vec<u64>,
 }
 
@@ -57,7 +57,7 @@ pub struct Area {
 /// An entry of a wanted rule, and its place.
 #[derive(Drop)]
 pub struct Placed<'a> {
-    pub part: Part<'a>,
+    pub part: ListEntry<'a>,
     pub place: usize,
 }
 
@@ -81,13 +81,13 @@ fn is_same_text(one: Option<&Text>, other: Option<&Text>) -> bool
     }
 }
 
-fn is_same(one: Part<'_>, other: Part<'_>) -> bool
+fn is_same(one: ListEntry<'_>, other: ListEntry<'_>) -> bool
     ensures { result ≡ true → item one.entry ≡ item other.entry }
 {
     one.list == other.list && is_same_text(one.text, other.text)
 }
 
-fn place(columns: &[Column<'_>], part: Part<'_>) -> Option<usize>
+fn place(columns: &[Column<'_>], part: ListEntry<'_>) -> Option<usize>
     ensures { IfSome result (λ p. item_at columns.now p ≡ Some (item part.entry)) }
 {
     for (place, column) in columns.iter().enumerate() {
@@ -104,7 +104,7 @@ fn add_column<'a>(
     columns: &mut Vec<Column<'a>>,
     rules: &Rules<'_>,
     everyone: &[u64],
-    part: Part<'a>,
+    part: ListEntry<'a>,
 ) -> Result<(), Memory>
     ensures few { OnOk result (length columns.old.items ≤ 64 → length columns.new.items ≤ 64) }
     ensures columns { OnOk result ((all : ListValue Stopper) → IsIndex all rules.now → Sees all (λ s. true) everyone.now → AreColumns all columns.old.items → AreColumns all columns.new.items) }
@@ -122,7 +122,7 @@ fn add_columns<'a>(
     columns: &mut Vec<Column<'a>>,
     rules: &Rules<'_>,
     everyone: &[u64],
-    parts: Vec<Part<'a>>,
+    parts: Vec<ListEntry<'a>>,
 ) -> Result<(), Memory>
     ensures few { OnOk result (length columns.old.items ≤ 64 → length columns.new.items ≤ 64) }
     ensures columns { OnOk result ((all : ListValue Stopper) → IsIndex all rules.now → Sees all (λ s. true) everyone.now → AreColumns all columns.old.items → AreColumns all columns.new.items) }
@@ -297,7 +297,7 @@ pub fn mark(alloc: Global, grid: &mut Grid<'_>, number: usize) -> Result<(), Mem
 fn places<'a>(
     alloc: Global,
     columns: &[Column<'_>],
-    parts: Vec<Part<'a>>,
+    parts: Vec<ListEntry<'a>>,
 ) -> Result<Option<Vec<Placed<'a>>>, Memory>
     ensures items { IfOk result (λ o. IfSome o (λ v. placed_items v.items ≡ items_in parts.entry.items)) }
     ensures places { IfOk result (λ o. IfSome o (λ v. ArePlaced columns.now v.items)) }
@@ -382,9 +382,9 @@ fn push_name(
     alloc: Global,
     list: &mut Vec<Atom>,
     word: u64,
-    group: Part<'_>,
-    resource: Part<'_>,
-    verb: Part<'_>,
+    group: ListEntry<'_>,
+    resource: ListEntry<'_>,
+    verb: ListEntry<'_>,
     name: &Placed<'_>,
 ) -> Result<(), Memory>
     requires { name.now.place < 64 }
@@ -409,9 +409,9 @@ fn push_names(
     list: &mut Vec<Atom>,
     columns: &Columns<'_>,
     word: u64,
-    group: Part<'_>,
-    resource: Part<'_>,
-    verb: Part<'_>,
+    group: ListEntry<'_>,
+    resource: ListEntry<'_>,
+    verb: ListEntry<'_>,
     names: &[Placed<'_>],
     bits: u64,
 ) -> Result<(), Memory>
@@ -435,8 +435,8 @@ fn push_verbs(
     list: &mut Vec<Atom>,
     grid: &Grid<'_>,
     first: usize,
-    group: Part<'_>,
-    resource: Part<'_>,
+    group: ListEntry<'_>,
+    resource: ListEntry<'_>,
     rule: &PlacedRule<'_>,
 ) -> Result<(), Memory>
     requires grid { IsGrid grid.now }
@@ -461,7 +461,7 @@ fn push_resources(
     list: &mut Vec<Atom>,
     grid: &Grid<'_>,
     first: usize,
-    group: Part<'_>,
+    group: ListEntry<'_>,
     rule: &PlacedRule<'_>,
 ) -> Result<(), Memory>
     requires grid { IsGrid grid.now }

@@ -27,7 +27,7 @@ pub enum List {
 
 /// An entry of a list of a wanted rule; without a text all names, of a rule that lists none.
 #[derive(Clone, Copy, Drop)]
-pub struct Part<'a> {
+pub struct ListEntry<'a> {
     pub list: List,
     pub text: Option<&'a Text>,
 }
@@ -47,7 +47,7 @@ fn has_word(seen: &BTreeSet<&str>, word: &str) -> bool
 
 // The word too, unless it is among those that were seen.
 fn push_new<'a>(
-    parts: &mut Vec<Part<'a>>,
+    parts: &mut Vec<ListEntry<'a>>,
     seen: &mut BTreeSet<&'a str>,
     list: List,
     word: &'a Text,
@@ -57,7 +57,7 @@ fn push_new<'a>(
 {
     if !has_word(seen, word.as_str()) {
         add_word(seen, word.as_str())?;
-        parts.push(Part {
+        parts.push(ListEntry {
             list,
             text: Some(word),
         })?;
@@ -67,7 +67,11 @@ fn push_new<'a>(
 
 /// Each entry of the list once, in the order in which they come first.
 #[tactic(auto, unfolding(crate::specs::Private::Once::once_each))]
-pub fn parts<'a>(alloc: Global, list: List, entries: &'a [Text]) -> Result<Vec<Part<'a>>, Memory>
+pub fn parts<'a>(
+    alloc: Global,
+    list: List,
+    entries: &'a [Text],
+) -> Result<Vec<ListEntry<'a>>, Memory>
     ensures { IfOk result (λ v. items_in v.items ≡ map (word_in list) (once_each entries.now)) }
 {
     let mut parts = Vec::new(alloc);
@@ -78,11 +82,11 @@ pub fn parts<'a>(alloc: Global, list: List, entries: &'a [Text]) -> Result<Vec<P
     Ok(parts)
 }
 
-fn all_names<'a>(alloc: Global) -> Result<Vec<Part<'a>>, Memory>
+fn all_names<'a>(alloc: Global) -> Result<Vec<ListEntry<'a>>, Memory>
     ensures { IfOk result (λ v. items_in v.items ≡ map names_item (names_of [])) }
 {
     let mut parts = Vec::new(alloc);
-    parts.push(Part {
+    parts.push(ListEntry {
         list: List::Names,
         text: None,
     })?;
@@ -90,7 +94,7 @@ fn all_names<'a>(alloc: Global) -> Result<Vec<Part<'a>>, Memory>
 }
 
 /// The names of a rule, or all names.
-pub fn names<'a>(alloc: Global, entries: &'a [Text]) -> Result<Vec<Part<'a>>, Memory>
+pub fn names<'a>(alloc: Global, entries: &'a [Text]) -> Result<Vec<ListEntry<'a>>, Memory>
     ensures { IfOk result (λ v. items_in v.items ≡ map names_item (names_of (once_each entries.now))) }
 {
     if entries.is_empty() {
@@ -193,7 +197,7 @@ fn push_text<'i>(
 pub fn row<'i>(
     alloc: Global,
     rules: &'i Rules<'_>,
-    part: Part<'_>,
+    part: ListEntry<'_>,
 ) -> Result<Vec<&'i Numbers>, Memory>
     ensures { IfOk result (λ v. (all : ListValue Stopper) → IsIndex all rules.now → IsRow all (item part.entry) v.items) }
 {

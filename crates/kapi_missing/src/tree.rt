@@ -10,7 +10,7 @@ ghost use Rattle.kapi_missing.specs.Private.Stoppers.{Item, Stopper, meets};
 
 use crate::index::Rules;
 use crate::numbers::{Numbers, common, is_any_common, shares};
-use crate::rows::{List, Part, names, parts, row};
+use crate::rows::{List, ListEntry, names, parts, row};
 use kapi_model::PolicyRule;
 use kapi_rules::{Atom, Names, UrlAtom, resource_atom};
 use kapi_text::{Memory, Text, TryCopy};
@@ -22,7 +22,7 @@ const CLASSES: usize = 64;
 /// An entry, and the rules that meet it.
 #[derive(Drop)]
 pub struct Entry<'a, 'i> {
-    pub part: Part<'a>,
+    pub part: ListEntry<'a>,
     pub row: Vec<&'i Numbers>,
 }
 
@@ -63,7 +63,7 @@ fn meeting_all(alloc: Global, rules: &[u64], entries: &[Entry<'_, '_>]) -> Resul
 fn entries_of<'a, 'i>(
     alloc: Global,
     rules: &'i Rules<'_>,
-    parts: Vec<Part<'a>>,
+    parts: Vec<ListEntry<'a>>,
 ) -> Result<Vec<Entry<'a, 'i>>, Memory>
     ensures items { IfOk result (λ v. entries_in v.items ≡ items_in parts.entry.items) }
     ensures rows { IfOk result (λ v. (all : ListValue Stopper) → IsIndex all rules.now → AreRows all v.items) }
@@ -80,7 +80,7 @@ fn entries_of<'a, 'i>(
 fn level_of<'a, 'i>(
     alloc: Global,
     rules: &'i Rules<'_>,
-    parts: Vec<Part<'a>>,
+    parts: Vec<ListEntry<'a>>,
     behind: &[u64],
 ) -> Result<Level<'a, 'i>, Memory>
     ensures items { IfOk result (λ l. entries_in l.entries.items ≡ items_in parts.entry.items) }
@@ -298,7 +298,11 @@ fn push_on_resource(
 }
 
 /// The atom of what is chosen: a URL and a verb, or a group, a resource, a verb and names.
-pub fn push_atom(alloc: Global, list: &mut Vec<Atom>, chosen: &[Part<'_>]) -> Result<(), Memory>
+pub fn push_atom(
+    alloc: Global,
+    list: &mut Vec<Atom>,
+    chosen: &[ListEntry<'_>],
+) -> Result<(), Memory>
     ensures { OnOk result (list.new.items ≡ list.old.items ++ atoms_of (items_in chosen.now)) }
 {
     match chosen {
@@ -318,8 +322,8 @@ pub fn push_atom(alloc: Global, list: &mut Vec<Atom>, chosen: &[Part<'_>]) -> Re
 fn push_chosen<'a>(
     alloc: Global,
     list: &mut Vec<Atom>,
-    chosen: &mut Vec<Part<'a>>,
-    part: Part<'a>,
+    chosen: &mut Vec<ListEntry<'a>>,
+    part: ListEntry<'a>,
 ) -> Result<(), Memory>
     ensures chosen { OnOk result (chosen.new.items ≡ chosen.old.items) }
     ensures list { OnOk result (list.new.items ≡ list.old.items ++ atoms_of (items_in chosen.old.items ++ item part.entry ∷ [])) }
@@ -334,7 +338,7 @@ fn push_chosen<'a>(
 fn push_unmet<'a>(
     alloc: Global,
     list: &mut Vec<Atom>,
-    chosen: &mut Vec<Part<'a>>,
+    chosen: &mut Vec<ListEntry<'a>>,
     rules: &[u64],
     entry: &Entry<'a, '_>,
 ) -> Result<(), Memory>
@@ -351,7 +355,7 @@ fn push_unmet<'a>(
 fn push_last<'a>(
     alloc: Global,
     list: &mut Vec<Atom>,
-    chosen: &mut Vec<Part<'a>>,
+    chosen: &mut Vec<ListEntry<'a>>,
     rules: &[u64],
     entries: &[Entry<'a, '_>],
 ) -> Result<(), Memory>
@@ -370,7 +374,7 @@ fn push_last<'a>(
 pub fn push<'a>(
     alloc: Global,
     list: &mut Vec<Atom>,
-    chosen: &mut Vec<Part<'a>>,
+    chosen: &mut Vec<ListEntry<'a>>,
     rules: &[u64],
     level: &Level<'a, '_>,
     behind: &[Level<'a, '_>],
@@ -397,7 +401,7 @@ pub fn push<'a>(
 fn push_each<'a>(
     alloc: Global,
     list: &mut Vec<Atom>,
-    chosen: &mut Vec<Part<'a>>,
+    chosen: &mut Vec<ListEntry<'a>>,
     rules: &[u64],
     entries: &[Entry<'a, '_>],
     next: &Level<'a, '_>,
@@ -419,9 +423,9 @@ fn push_each<'a>(
 fn push_below<'a>(
     alloc: Global,
     list: &mut Vec<Atom>,
-    chosen: &mut Vec<Part<'a>>,
+    chosen: &mut Vec<ListEntry<'a>>,
     rules: &[u64],
-    part: Part<'a>,
+    part: ListEntry<'a>,
     next: &Level<'a, '_>,
     rest: &[Level<'a, '_>],
 ) -> Result<(), Memory>

@@ -4,7 +4,7 @@ use Rattle.std.proofs.Math.Dec.{eqb-suc-zero}
 use Rattle.std.proofs.lemmas.List.{append-nil, take_rest}
 use Rattle.std.specs.Borrow.{Bor}
 use Rattle.std.specs.Option.{IfSome, option_copied}
-use Rattle.kapi_text.specs.Gives.{Fails, ◌>>=◌}
+use Rattle.kapi_text.specs.ResultIs.{Fails, ◌>>=◌}
 use Rattle.kapi_model.specs.declared.selector.Requirement.{Requirement}
 use Rattle.kapi_model.specs.declared.selector_token.Token.{Token}
 use Rattle.kapi_model.specs.declared.selector_token.Token.TheVariants.{Word, Equals, NotEquals, Not, Open, Close, Comma}

@@ -2,7 +2,7 @@
 ghost use Rattle.std.specs.Prelude.{◌≡◌, ◌<◌, ◌≤◌, ◌∷◌, [], Ok, false, length, IfOk, IfSome};
 ghost use Rattle.std.specs.List.{list_all};
 ghost use Rattle.std.specs.Option.{option_copied};
-ghost use Rattle.kapi_text.specs.Gives.{Gives};
+ghost use Rattle.kapi_text.specs.ResultIs.{ResultIs};
 ghost use Rattle.kapi_model.specs.Names.{is_label_value};
 ghost use Rattle.kapi_model.specs.Private.SelectorSteps as steps;
 ghost use Rattle.kapi_model.specs.Private.SelectorSteps.{pieces_left, value_and};
@@ -22,7 +22,7 @@ impl Selector {
     /// becomes one of the match expressions, in order. The empty text requires nothing.
     #[tactic(auto, unfolding(crate::specs::SelectorText::selector_of))]
     pub fn parse(alloc: Global, text: &str) -> Result<Selector, SelectorError>
-        ensures { Gives fault_of (λ s. s) result (selector_of text.now) }
+        ensures { ResultIs fault_of (λ s. s) result (selector_of text.now) }
     {
         let tokens = tokens(alloc, text)?;
         let requirements = all_required(alloc, tokens.as_slice())?;
@@ -35,7 +35,7 @@ impl Selector {
 
 /// What all tokens require.
 fn all_required(alloc: Global, tokens: &[Token<'_>]) -> Result<Vec<Requirement>, SelectorError>
-    ensures { Gives fault_of (λ v. v.items) result (meaning.all_required tokens.now) }
+    ensures { ResultIs fault_of (λ v. v.items) result (meaning.all_required tokens.now) }
 {
     if tokens.is_empty() {
         return Ok(Vec::new(alloc));
@@ -45,7 +45,7 @@ fn all_required(alloc: Global, tokens: &[Token<'_>]) -> Result<Vec<Requirement>,
 
 /// The requirements between the commas outside of parentheses.
 fn requirements(alloc: Global, tokens: &[Token<'_>]) -> Result<Vec<Requirement>, SelectorError>
-    ensures { Gives fault_of (λ v. v.items) result (meaning.requirements (meaning.pieces false tokens.now)) }
+    ensures { ResultIs fault_of (λ v. v.items) result (meaning.requirements (meaning.pieces false tokens.now)) }
 {
     let mut requirements = Vec::new(alloc);
     let mut rest = Some(tokens);
@@ -96,7 +96,7 @@ fn is_parting(inside: bool, token: &Token<'_>) -> bool
 /// What the tokens of one requirement require.
 #[tactic(auto, unfolding(crate::specs::SelectorText::requirement))]
 fn requirement(alloc: Global, tokens: &[Token<'_>]) -> Result<Requirement, SelectorError>
-    ensures { Gives fault_of (λ r. r) result (meaning.requirement tokens.now) }
+    ensures { ResultIs fault_of (λ r. r) result (meaning.requirement tokens.now) }
 {
     match tokens {
         [first, rest @ ..] => match first {
@@ -110,7 +110,7 @@ fn requirement(alloc: Global, tokens: &[Token<'_>]) -> Result<Requirement, Selec
 
 /// What `!` requires of the key behind it, if there is one.
 fn without(alloc: Global, key: Option<&str>) -> Result<Requirement, SelectorError>
-    ensures { Gives fault_of (λ r. r) result (meaning.without (option_copied key.entry)) }
+    ensures { ResultIs fault_of (λ r. r) result (meaning.without (option_copied key.entry)) }
 {
     match key {
         Some(key) => checked(alloc, key, Operator::DoesNotExist, Vec::new(alloc)),
@@ -121,7 +121,7 @@ fn without(alloc: Global, key: Option<&str>) -> Result<Requirement, SelectorErro
 /// What the tokens behind a key require of it.
 #[tactic(auto, unfolding(crate::specs::SelectorText::behind_key))]
 fn behind_key(alloc: Global, key: &str, tokens: &[Token<'_>]) -> Result<Requirement, SelectorError>
-    ensures { Gives fault_of (λ r. r) result (meaning.behind_key key.now tokens.now) }
+    ensures { ResultIs fault_of (λ r. r) result (meaning.behind_key key.now tokens.now) }
 {
     match tokens {
         [first, rest @ ..] => match first {
@@ -141,7 +141,7 @@ fn equality(
     operator: Operator,
     tokens: &[Token<'_>],
 ) -> Result<Requirement, SelectorError>
-    ensures { Gives fault_of (λ r. r) result (meaning.equality key.now operator tokens.now) }
+    ensures { ResultIs fault_of (λ r. r) result (meaning.equality key.now operator tokens.now) }
 {
     let values = one_value(alloc, tokens)?;
     checked(alloc, key, operator, values)
@@ -154,7 +154,7 @@ fn set_based(
     word: &str,
     tokens: &[Token<'_>],
 ) -> Result<Requirement, SelectorError>
-    ensures { Gives fault_of (λ r. r) result (meaning.set_based key.now word.now tokens.now) }
+    ensures { ResultIs fault_of (λ r. r) result (meaning.set_based key.now word.now tokens.now) }
 {
     match tokens {
         [first, rest @ ..] => match first {
@@ -172,7 +172,7 @@ fn membership(
     word: &str,
     tokens: &[Token<'_>],
 ) -> Result<Requirement, SelectorError>
-    ensures { Gives fault_of (λ r. r) result (meaning.membership key.now word.now tokens.now) }
+    ensures { ResultIs fault_of (λ r. r) result (meaning.membership key.now word.now tokens.now) }
 {
     let operator = named(word)?;
     let values = listed(alloc, tokens)?;
@@ -181,7 +181,7 @@ fn membership(
 
 /// The operator that a word names before `(`.
 fn named(word: &str) -> Result<Operator, SelectorError>
-    ensures { Gives fault_of (λ o. o) result (meaning.named word.now) }
+    ensures { ResultIs fault_of (λ o. o) result (meaning.named word.now) }
 {
     match word {
         "in" => Ok(Operator::In),
@@ -192,7 +192,7 @@ fn named(word: &str) -> Result<Operator, SelectorError>
 
 /// The value behind `=`, `==` or `!=`, which may be empty.
 fn one_value(alloc: Global, tokens: &[Token<'_>]) -> Result<Vec<Text>, SelectorError>
-    ensures { Gives fault_of (λ v. v.items) result (meaning.one_value tokens.now) }
+    ensures { ResultIs fault_of (λ v. v.items) result (meaning.one_value tokens.now) }
 {
     match tokens {
         [_first, ..] => sole(alloc, only_word(tokens)),
@@ -202,7 +202,7 @@ fn one_value(alloc: Global, tokens: &[Token<'_>]) -> Result<Vec<Text>, SelectorE
 
 /// The list of the one value that a word is.
 fn sole(alloc: Global, value: Option<&str>) -> Result<Vec<Text>, SelectorError>
-    ensures { Gives fault_of (λ v. v.items) result (meaning.sole (option_copied value.entry)) }
+    ensures { ResultIs fault_of (λ v. v.items) result (meaning.sole (option_copied value.entry)) }
 {
     match value {
         Some(value) => only(alloc, value),
@@ -222,7 +222,7 @@ fn only_word<'a>(tokens: &[Token<'a>]) -> Option<&'a str>
 
 /// The list of one value.
 fn only(alloc: Global, value: &str) -> Result<Vec<Text>, SelectorError>
-    ensures { Gives fault_of (λ v. v.items) result (Ok (value.now ∷ [])) }
+    ensures { ResultIs fault_of (λ v. v.items) result (Ok (value.now ∷ [])) }
 {
     let mut values = Vec::new(alloc);
     values.push(Text::copy_of(alloc, value)?)?;
@@ -231,7 +231,7 @@ fn only(alloc: Global, value: &str) -> Result<Vec<Text>, SelectorError>
 
 /// The values behind `(`, parted by commas, up to the `)` that ends the requirement. Each may be empty.
 fn listed(alloc: Global, tokens: &[Token<'_>]) -> Result<Vec<Text>, SelectorError>
-    ensures { Gives fault_of (λ v. v.items) result (meaning.listed tokens.now) }
+    ensures { ResultIs fault_of (λ v. v.items) result (meaning.listed tokens.now) }
 {
     let mut values = Vec::new(alloc);
     let mut rest = Some(tokens);
@@ -259,7 +259,7 @@ fn front_value<'a, 'b>(tokens: &'b [Token<'a>]) -> (&'a str, &'b [Token<'a>])
 
 /// The tokens behind a value: those of other values behind a comma, or none behind the `)` that ends the requirement.
 fn behind_value<'a, 'b>(tokens: &'b [Token<'a>]) -> Result<Option<&'b [Token<'a>]>, SelectorError>
-    ensures split { Gives fault_of option_copied result (steps.behind_value tokens.now) }
+    ensures split { ResultIs fault_of option_copied result (steps.behind_value tokens.now) }
     ensures shorter { IfOk result (λ o. IfSome o (λ left. length left.now < length tokens.now)) }
 {
     match tokens {
@@ -279,7 +279,7 @@ fn checked(
     operator: Operator,
     values: Vec<Text>,
 ) -> Result<Requirement, SelectorError>
-    ensures { Gives fault_of (λ r. r) result (meaning.checked key.now operator values.items) }
+    ensures { ResultIs fault_of (λ r. r) result (meaning.checked key.now operator values.items) }
 {
     if check_label_key(key) && are_values(values.as_slice()) {
         Ok(Requirement {

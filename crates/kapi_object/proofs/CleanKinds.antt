@@ -23,14 +23,14 @@ use Rattle.kapi_object.proofs.KeptParts.{Keeps, filled, part_value}
 use Rattle.kapi_object.specs.Shapes.{Says, passes, element_faults, part_faults, rows_faults}
 use Rattle.kapi_object.specs.Tables.{rows_of, urls}
 use Rattle.kapi_object.specs.Typed.{need_faults, list_faults, is_right, is_required, member_path, object_faults, text_faults, text_item_faults}
-use Rattle.kapi_object.specs.declared.table.Part.{Part}
-use Rattle.kapi_object.specs.declared.table.Part.TheVariants as part
+use Rattle.kapi_object.specs.declared.table.ValueRule.{ValueRule}
+use Rattle.kapi_object.specs.declared.table.ValueRule.TheVariants as part
 use Rattle.kapi_object.specs.declared.table.Table.{Table}
 use Rattle.kapi_object.specs.declared.table.Table.TheVariants as table
 use Rattle.kapi_object.specs.declared.text_rule.TextRule.{TextRule}
 use Rattle.kapi_object.specs.declared.text_rule.TextRule.TheVariants as rule
-use Rattle.kapi_object.specs.declared.typed_list.Need.{Need}
-use Rattle.kapi_object.specs.declared.typed_list.Need.TheVariants as need
+use Rattle.kapi_object.specs.declared.typed_list.Presence.{Presence}
+use Rattle.kapi_object.specs.declared.typed_list.Presence.TheVariants as need
 
 -- what is kept of each sort of objects: what is read of it, written
 abbrev pub kept_of : Keeps
@@ -121,7 +121,7 @@ empty_same : (ds : Items) → is_empty (write_items string (read_items text_of d
 empty_same ds = elim ds as (λ e. is_empty (write_items string (read_items text_of e)) ≡ is_empty e) [ no_items ↦ refl | item d e ↦ refl ]
 
 -- the list that is kept is the same whether it must have elements or not
-texts_two : (b : Bool) (n m : Need) (o : Option Data) → list_value (write_items string (read_items text_of (items_if o))) ≡ part_value kept_of (if b then part.Texts n rule.Any else part.Texts m rule.Any) o
+texts_two : (b : Bool) (n m : Presence) (o : Option Data) → list_value (write_items string (read_items text_of (items_if o))) ≡ part_value kept_of (if b then part.Texts n rule.Any else part.Texts m rule.Any) o
 texts_two true n m o = refl
 texts_two false n m o = refl
 
@@ -142,7 +142,7 @@ rule_found d p h =
 
 -- ---- selectors
 
-values_three : (a b : Bool) (n m l : Need) (o : Option Data) → list_value (write_items string (read_items text_of (items_if o)))
+values_three : (a b : Bool) (n m l : Presence) (o : Option Data) → list_value (write_items string (read_items text_of (items_if o)))
     ≡ part_value kept_of (if a then part.Texts n rule.LabelValue else (if b then part.Texts m rule.LabelValue else part.Texts l rule.LabelValue)) o
 values_three true b n m l o = refl
 values_three false true n m l o = refl
@@ -217,13 +217,13 @@ namespace_at ServiceAccount name namespace = account_namespace_at (record { name
 abbrev is_account : List ℕ → Bool
 is_account s = bytes_eq s (codes "ServiceAccount") || bytes_eq s (codes "ServiceAccount")
 
-abbrev name_part : List ℕ → Part
+abbrev name_part : List ℕ → ValueRule
 name_part s = if is_account s then part.Text rule.AccountName else part.Text rule.NotEmpty
 
-abbrev group_part : List ℕ → Part
+abbrev group_part : List ℕ → ValueRule
 group_part s = if is_account s then part.Text rule.Empty else (if is_some (subject_kind s) then part.Text rule.RbacGroup else part.Text rule.Any)
 
-abbrev namespace_part : TextRule → List ℕ → Part
+abbrev namespace_part : TextRule → List ℕ → ValueRule
 namespace_part r s = if is_account s then part.Text r else part.Dropped
 
 name_kept : (f : Says) (b : Bool) (p : List ℕ) (o : Option Data) → part_faults f (if b then part.Text rule.AccountName else part.Text rule.NotEmpty) p o ≡ []

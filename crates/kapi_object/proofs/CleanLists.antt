@@ -6,7 +6,7 @@ use Rattle.kapi_object.specs.Typed.{need_faults, is_given, items_faults, list_fa
 use Rattle.kapi_object.specs.Tree.{is_empty}
 use Rattle.kapi_model.specs.declared.fault.FieldFault.{FieldFault}
 use Rattle.kapi_object.specs.declared.text_rule.TextRule.{TextRule}
-use Rattle.kapi_object.specs.declared.typed_list.Need.{Need as ListNeed}
+use Rattle.kapi_object.specs.declared.typed_list.Presence.{Presence as ListNeed}
 
 -- two lists that are empty together, and each of them
 pub parts : {A : Type 0} (xs ys : List A) → xs ++ ys ≡ [] → (xs ≡ []) × (ys ≡ [])

@@ -19,8 +19,8 @@ use Rattle.kapi_object.specs.Tables.{rows_of, word_text}
 use Rattle.kapi_object.specs.Typed.{need_faults, items_faults, list_faults, is_given, is_right, is_required, member_path, object_faults, text_faults, text_item_faults}
 use Rattle.kapi_object.specs.declared.table.Choice.{Choice}
 use Rattle.kapi_object.specs.declared.table.Choice.TheVariants.{One, Two, Three}
-use Rattle.kapi_object.specs.declared.table.Part.{Part}
-use Rattle.kapi_object.specs.declared.table.Part.TheVariants as part
+use Rattle.kapi_object.specs.declared.table.ValueRule.{ValueRule}
+use Rattle.kapi_object.specs.declared.table.ValueRule.TheVariants as part
 use Rattle.kapi_object.specs.declared.table.Row.{Row}
 use Rattle.kapi_object.specs.declared.table.Table.{Table}
 use Rattle.kapi_object.specs.declared.table.Table.TheVariants as table
@@ -30,7 +30,7 @@ use Rattle.kapi_object.specs.declared.table.Written.{Written}
 use Rattle.kapi_object.specs.declared.table.Written.TheVariants as written
 use Rattle.kapi_object.specs.declared.text_rule.TextRule.{TextRule}
 use Rattle.kapi_object.specs.declared.text_rule.TextRule.TheVariants as rule
-use Rattle.kapi_object.specs.declared.typed_list.Need.{Need}
+use Rattle.kapi_object.specs.declared.typed_list.Presence.{Presence}
 use Rattle.kapi_object.specs.declared.word.Word.{Word}
 
 -- ---- objects
@@ -80,7 +80,7 @@ text_part rule.RbacGroup p o h = refl
 text_part rule.RbacGroupOrEmpty p o h = refl
 text_part r p o h = plain_clean r p o h
 
-written_clean : (f : List ℕ → Data → List FieldFault) (n : Need) (w : Written) (p : List ℕ) (ds : Items) → need_faults n (is_empty ds) p ≡ [] → items_faults f p 0 ds ≡ []
+written_clean : (f : List ℕ → Data → List FieldFault) (n : Presence) (w : Written) (p : List ℕ) (ds : Items) → need_faults n (is_empty ds) p ≡ [] → items_faults f p 0 ds ≡ []
     → list_faults f n p (written_value w ds) ≡ []
 written_clean f n written.Always p ds hn hi = array_clean f n p ds hn hi
 written_clean f n written.NotEmpty p ds hn hi = listed_clean f n p ds hn hi
@@ -94,7 +94,7 @@ when_key (when.Says key one other) = key
 when_key (when.Keeps key rule) = key
 
 -- a condition holds alike of what is kept of the part
-abbrev fits : When → Part → Bool
+abbrev fits : When → ValueRule → Bool
 fits (when.Given key) (part.Texts n r) = true
 fits (when.Given key) (part.Object n t) = true
 fits (when.Given key) _ = false
@@ -134,7 +134,7 @@ Found g (r ∷ rs) k d = (member_of (word_text r.0) k ≡ row_value g r d) × Fo
 
 module _ (f : Says) (g : Keeps) (is_object : (t : Table) (d : Data) → is_some (as_object (g t d)) ≡ true)
     (below : (t : Table) (p : List ℕ) (d : Data) → object_faults (f t) p d ≡ [] → object_faults (f t) p (g t d) ≡ []) where
-  part_clean : (q : Part) (p : List ℕ) (o : Option Data) → part_faults f q p o ≡ [] → part_faults f q p (part_value g q o) ≡ []
+  part_clean : (q : ValueRule) (p : List ℕ) (o : Option Data) → part_faults f q p o ≡ [] → part_faults f q p (part_value g q o) ≡ []
   unfolding part_faults
   part_clean part.Dropped p o h = refl
   part_clean part.Forbidden p o h = refl
@@ -153,7 +153,7 @@ module _ (f : Says) (g : Keeps) (is_object : (t : Table) (d : Data) → is_some 
 
   -- ---- the conditions hold alike
 
-  object_given : (n : Need) (t : Table) (p : List ℕ) (o : Option Data) → element_faults (object_faults (f t)) n p o ≡ [] → is_given (part_value g (part.Object n t) o) ≡ is_given o
+  object_given : (n : Presence) (t : Table) (p : List ℕ) (o : Option Data) → element_faults (object_faults (f t)) n p o ≡ [] → is_given (part_value g (part.Object n t) o) ≡ is_given o
   object_given n t p None h = refl
   object_given n t p (Some (object ms)) h = is_object_given (g t (object ms)) (is_object t (object ms))
   object_given n t p (Some _) h = absurd (cc h)
@@ -161,7 +161,7 @@ module _ (f : Says) (g : Keeps) (is_object : (t : Table) (d : Data) → is_some 
   text_same : (r : TextRule) (key : List ℕ) (k d : Data) → is_plain r ≡ true → member_of key k ≡ part_value g (part.Text r) (member_of key d) → text_at key k ≡ text_at key d
   text_same r key k d plain e = ap text_if e ∙ text_round (filled r (text_at key d)) ∙ plain_filled r (text_at key d) plain
 
-  part_tells : (w : When) (q : Part) (p : List ℕ) (k d : Data) → fits w q ≡ true → member_of (word_text (when_key w)) k ≡ part_value g q (member_of (word_text (when_key w)) d)
+  part_tells : (w : When) (q : ValueRule) (p : List ℕ) (k d : Data) → fits w q ≡ true → member_of (word_text (when_key w)) k ≡ part_value g q (member_of (word_text (when_key w)) d)
       → part_faults f q p (member_of (word_text (when_key w)) d) ≡ [] → passes w k ≡ passes w d
   unfolding part_faults
   part_tells (when.Given key) (part.Texts n r) p k d h e c = ap is_given e ∙ given_same text_of string (text_item_faults r) n p (member_of (word_text key) d) c

@@ -8,7 +8,7 @@ use Rattle.kapi_model.specs.declared.row.ResourceRow.{ResourceRow}
 use Rattle.kapi_object.proofs.Puts.{put_other, put_if_other, put_if_here, there_once}
 use Rattle.kapi_object.specs.Given.{text_given, given_of, given_on}
 use Rattle.kapi_object.specs.Tree.{is_empty_object, members_or_none, in_metadata, metadata_member, put_if, unless_null}
-use Rattle.kapi_object.specs.declared.given.GivenText.TheVariants.{Absent}
+use Rattle.kapi_object.specs.declared.body_fields.GivenText.TheVariants.{Absent}
 use Rattle.kapi_object.specs.Admission.{put_entries, kept_entries, kept_names, kept_place, kept_metadata, filled, kept_tree}
 
 put_unless_other : (b : Bool) (q k : List ℕ) (d : Data) (ms : Members) → bytes_eq q k ≡ false → get_member q (if b then ms else put k d ms) ≡ get_member q ms

@@ -6,8 +6,8 @@ use Rattle.kapi_object.specs.Contents.{text_if, text_of, items_if, read_items, w
 use Rattle.kapi_object.specs.Tree.{member_of, members_or_none}
 use Rattle.kapi_object.specs.Shapes.{chosen}
 use Rattle.kapi_object.specs.Tables.{word_text}
-use Rattle.kapi_object.specs.declared.table.Part.{Part}
-use Rattle.kapi_object.specs.declared.table.Part.TheVariants as part
+use Rattle.kapi_object.specs.declared.table.ValueRule.{ValueRule}
+use Rattle.kapi_object.specs.declared.table.ValueRule.TheVariants as part
 use Rattle.kapi_object.specs.declared.table.Row.{Row}
 use Rattle.kapi_object.specs.declared.table.Table.{Table}
 use Rattle.kapi_object.specs.declared.table.Written.{Written}
@@ -31,7 +31,7 @@ written_value written.Always ds = Some (array ds)
 written_value written.NotEmpty ds = list_value ds
 
 -- what is kept of the value at a key
-abbrev pub part_value : Keeps → Part → Option Data → Option Data
+abbrev pub part_value : Keeps → ValueRule → Option Data → Option Data
 part_value g part.Dropped o = None
 part_value g part.Forbidden o = None
 part_value g (part.Text r) o = text_value (filled r (text_if o))

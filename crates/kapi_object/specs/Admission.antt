@@ -7,7 +7,7 @@ use Rattle.serde_json.specs.Written.{has_float}
 use Rattle.kapi_model.specs.declared.fault.FieldFault.{FieldFault}
 use Rattle.kapi_object.specs.declared.object_error.ObjectError.{ObjectError}
 use Rattle.kapi_object.specs.declared.object_error.ObjectError.TheVariants as error
-use Rattle.kapi_object.specs.declared.given.Given.{Given}
+use Rattle.kapi_object.specs.declared.body_fields.Given.{Given}
 use Rattle.kapi_model.specs.declared.row.ResourceRow.{ResourceRow}
 use Rattle.kapi_model.specs.declared.row.Schema.{Schema}
 use Rattle.kapi_object.specs.Contents.{content_of}

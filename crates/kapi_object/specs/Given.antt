@@ -1,9 +1,9 @@
 -- What an object specifies as its name, its namespace and its resource version.
 use Rattle.std.specs.Prelude.{Option, Some, None, codes, if◌then◌else◌}
 use Rattle.serde_json.specs.Data.{Data, string}
-use Rattle.kapi_object.specs.declared.given.Given.{Given}
-use Rattle.kapi_object.specs.declared.given.GivenText.{GivenText}
-use Rattle.kapi_object.specs.declared.given.GivenText.TheVariants.{Absent, Text, Mistyped}
+use Rattle.kapi_object.specs.declared.body_fields.Given.{Given}
+use Rattle.kapi_object.specs.declared.body_fields.GivenText.{GivenText}
+use Rattle.kapi_object.specs.declared.body_fields.GivenText.TheVariants.{Absent, Text, Mistyped}
 use Rattle.kapi_model.specs.declared.row.ResourceRow.{ResourceRow}
 use Rattle.kapi_object.specs.Tree.{metadata_member}
 

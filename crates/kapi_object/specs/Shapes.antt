@@ -12,15 +12,15 @@ use Rattle.kapi_object.specs.Tree.{member_of}
 use Rattle.kapi_object.specs.declared.metadata.Entries.TheVariants.{Labels}
 use Rattle.kapi_object.specs.declared.table.Choice.{Choice}
 use Rattle.kapi_object.specs.declared.table.Choice.TheVariants.{One, Two, Three}
-use Rattle.kapi_object.specs.declared.table.Part.{Part}
-use Rattle.kapi_object.specs.declared.table.Part.TheVariants as part
+use Rattle.kapi_object.specs.declared.table.ValueRule.{ValueRule}
+use Rattle.kapi_object.specs.declared.table.ValueRule.TheVariants as part
 use Rattle.kapi_object.specs.declared.table.Row.{Row}
 use Rattle.kapi_object.specs.declared.table.Table.{Table}
 use Rattle.kapi_object.specs.declared.table.Table.TheVariants as table
 use Rattle.kapi_object.specs.declared.table.When.{When}
 use Rattle.kapi_object.specs.declared.table.When.TheVariants as when
 use Rattle.kapi_object.specs.declared.text_rule.TextRule.TheVariants as rule
-use Rattle.kapi_object.specs.declared.typed_list.Need.{Need}
+use Rattle.kapi_object.specs.declared.typed_list.Presence.{Presence}
 use Rattle.kapi_object.specs.Faults.{entries_faults}
 use Rattle.kapi_object.specs.Tables.{rows_of, word_text}
 use Rattle.kapi_object.specs.Typed.{is_given, is_right, list_faults, member_path, need_faults, object_faults, text_faults, text_item_faults}
@@ -33,7 +33,7 @@ passes (when.Says key one other) d = bytes_eq (text_at (word_text key) d) (word_
 passes (when.Keeps key rule) d = is_right rule (text_at (word_text key) d)
 
 -- the part that is chosen: the part of the first condition that holds, else the last
-abbrev pub chosen : Choice → Data → Part
+abbrev pub chosen : Choice → Data → ValueRule
 chosen (One p) d = p
 chosen (Two w p q) d = if passes w d then p else q
 chosen (Three w p v q r) d = if passes w d then p else (if passes v d then q else r)
@@ -48,12 +48,12 @@ forbidden_faults path None = []
 forbidden_faults path (Some d) = fault path NotAllowedHere ∷ []
 
 -- what is wrong with an element if one may be
-abbrev pub element_faults : (List ℕ → Data → List FieldFault) → Need → List ℕ → Option Data → List FieldFault
+abbrev pub element_faults : (List ℕ → Data → List FieldFault) → Presence → List ℕ → Option Data → List FieldFault
 element_faults f n path None = need_faults n true path
 element_faults f n path (Some d) = f path d
 
 -- what is wrong with the value at a key
-unfoldable pub part_faults : Says → Part → List ℕ → Option Data → List FieldFault
+unfoldable pub part_faults : Says → ValueRule → List ℕ → Option Data → List FieldFault
 part_faults f part.Dropped path o = []
 part_faults f part.Forbidden path o = forbidden_faults path o
 part_faults f (part.Text r) path o = text_faults r path o

@@ -3,8 +3,8 @@
 use Rattle.std.specs.Prelude.{ℕ, List, [], ◌∷◌, codes}
 use Rattle.kapi_object.specs.declared.table.Choice.{Choice}
 use Rattle.kapi_object.specs.declared.table.Choice.TheVariants.{One, Two, Three}
-use Rattle.kapi_object.specs.declared.table.Part.{Part}
-use Rattle.kapi_object.specs.declared.table.Part.TheVariants as part
+use Rattle.kapi_object.specs.declared.table.ValueRule.{ValueRule}
+use Rattle.kapi_object.specs.declared.table.ValueRule.TheVariants as part
 use Rattle.kapi_object.specs.declared.table.Row.{Row}
 use Rattle.kapi_object.specs.declared.table.Table.{Table}
 use Rattle.kapi_object.specs.declared.table.Table.TheVariants as table
@@ -12,7 +12,7 @@ use Rattle.kapi_object.specs.declared.table.When.{When}
 use Rattle.kapi_object.specs.declared.table.When.TheVariants as when
 use Rattle.kapi_object.specs.declared.table.Written.TheVariants as written
 use Rattle.kapi_object.specs.declared.text_rule.TextRule.TheVariants as rule
-use Rattle.kapi_object.specs.declared.typed_list.Need.TheVariants as need
+use Rattle.kapi_object.specs.declared.typed_list.Presence.TheVariants as need
 use Rattle.kapi_object.specs.declared.word.Word.{Word}
 use Rattle.kapi_object.specs.declared.word.Word.TheVariants as word
 
@@ -66,27 +66,27 @@ told_kind = when.Keeps word.Kind rule.SubjectKind
 -- ---- parts
 
 -- a list of texts that is not empty
-abbrev pub some_texts : Part
+abbrev pub some_texts : ValueRule
 some_texts = part.Texts need.Required rule.Any
 
 -- no list of texts, or an empty one
-abbrev pub no_texts : Part
+abbrev pub no_texts : ValueRule
 no_texts = part.Texts need.Forbidden rule.Any
 
 -- a list of texts
-abbrev pub any_texts : Part
+abbrev pub any_texts : ValueRule
 any_texts = part.Texts need.Optional rule.Any
 
 -- a list of label values that is not empty
-abbrev pub some_values : Part
+abbrev pub some_values : ValueRule
 some_values = part.Texts need.Required rule.LabelValue
 
 -- no list of label values, or an empty one
-abbrev pub no_values : Part
+abbrev pub no_values : ValueRule
 no_values = part.Texts need.Forbidden rule.LabelValue
 
 -- a list of label values
-abbrev pub any_values : Part
+abbrev pub any_values : ValueRule
 any_values = part.Texts need.Optional rule.LabelValue
 
 -- a row of a table: a key and the part for it

@@ -6,8 +6,8 @@ use Rattle.serde_json.specs.Data.{Data, null, string, array, Items, no_items, it
 use Rattle.serde_json.specs.Find.{as_object}
 use Rattle.kapi_model.specs.declared.fault.FaultKind.TheVariants.{Required, NotAllowedHere, WrongType, BadValue}
 use Rattle.kapi_model.specs.declared.fault.FieldFault.{FieldFault}
-use Rattle.kapi_object.specs.declared.typed_list.Need.{Need}
-use Rattle.kapi_object.specs.declared.typed_list.Need.TheVariants as need
+use Rattle.kapi_object.specs.declared.typed_list.Presence.{Presence}
+use Rattle.kapi_object.specs.declared.typed_list.Presence.TheVariants as need
 use Rattle.kapi_object.specs.declared.text_rule.TextRule.{TextRule}
 use Rattle.kapi_object.specs.declared.text_rule.TextRule.TheVariants as rule
 use Rattle.kapi_model.specs.FaultKind.{fault}
@@ -79,7 +79,7 @@ text_item_faults r path d = text_faults r path (Some d)
 -- ---- lists
 
 -- what is wrong with a list for being empty or not
-abbrev pub need_faults : Need → Bool → List ℕ → List FieldFault
+abbrev pub need_faults : Presence → Bool → List ℕ → List FieldFault
 need_faults need.Required true path = fault path Required ∷ []
 need_faults need.Forbidden false path = fault path NotAllowedHere ∷ []
 need_faults _ _ path = []
@@ -90,13 +90,13 @@ items_faults f path index no_items = []
 items_faults f path index (item d ds) = f (item_path path index) d ++ items_faults f path (index + 1) ds
 
 -- what is wrong with a value if a list is expected: first with the list, then with its elements
-unfoldable pub list_faults : (List ℕ → Data → List FieldFault) → Need → List ℕ → Option Data → List FieldFault
+unfoldable pub list_faults : (List ℕ → Data → List FieldFault) → Presence → List ℕ → Option Data → List FieldFault
 list_faults f n path None = need_faults n true path
 list_faults f n path (Some (array ds)) = need_faults n (is_empty ds) path ++ items_faults f path 0 ds
 list_faults f n path (Some _) = fault path WrongType ∷ []
 
 -- what is wrong with a list at a member
-abbrev pub list_faults_at : (List ℕ → Data → List FieldFault) → Need → List ℕ → List ℕ → Data → List FieldFault
+abbrev pub list_faults_at : (List ℕ → Data → List FieldFault) → Presence → List ℕ → List ℕ → Data → List FieldFault
 list_faults_at f n path key d = list_faults f n (member_path path key) (member_of key d)
 
 -- the value is anything but an empty list

@@ -4,7 +4,7 @@ ghost use Rattle.serde_json.specs.Find.{get};
 ghost use Rattle.serde_json.specs.Read.{max_depth};
 ghost use Rattle.serde_json.specs.View.{view, members_view, items_view};
 ghost use Rattle.serde_json.specs.Written as written;
-ghost use Rattle.kapi_text.specs.Gives.{Gives};
+ghost use Rattle.kapi_text.specs.ResultIs.{ResultIs};
 ghost use Rattle.kapi_object.specs.Admission.{is_other, not_json, object_of, read_as, told, version_of, admitted, faults_on};
 ghost use Rattle.kapi_object.specs.Admission as admission;
 ghost use Rattle.kapi_object.specs.Private.Kept.{is_kept as is_kept_of, kept_members};
@@ -16,8 +16,8 @@ ghost use Rattle.kapi_object.specs.Tree.{json_object};
 ghost use Rattle.kapi_object.specs.Tree as trees;
 ghost use Rattle.serde_json.specs.Written.{items_have_float, members_have_float};
 
+use crate::body_fields::{Given, GivenText, given_in};
 use crate::contents::content;
-use crate::given::{Given, GivenText, given_in};
 use crate::metadata::collect_metadata_faults;
 use crate::object::Object;
 use crate::object_error::ObjectError;
@@ -139,7 +139,7 @@ fn has_other(tree: &Value, key: &str, text: &str) -> bool
 /// The JSON object that the bytes are (RFC 8259).
 #[tactic(auto, unfolding(crate::specs::Tree::json_object))]
 pub fn read_tree(alloc: Global, bytes: &[u8]) -> Result<Value, ObjectError>
-    ensures object { Gives told view result (ok_or (json_object bytes.now) not_json) }
+    ensures object { ResultIs told view result (ok_or (json_object bytes.now) not_json) }
     ensures ordered { IfOk result (λ v. is_ordered (view v) ≡ true) }
     ensures nests { IfOk result (λ v. depth (view v) ≤ max_depth) }
 {
@@ -186,7 +186,7 @@ fn admit(
     requires version { string_bytes version ≡ version_of row.now }
     requires whole { written.has_float (view tree) ≡ false }
     requires ordered { is_ordered (view tree) ≡ true }
-    ensures tree { Gives told view result (admitted row.now (view tree)) }
+    ensures tree { ResultIs told view result (admitted row.now (view tree)) }
     ensures given { IfOk result (λ v. given_of (view v) ≡ gives.given_on row.now (view tree)) }
     ensures clean { IfOk result (λ v. faults_on row.now.schema (view v) ≡ []) }
     ensures whole { IfOk result (λ v. written.has_float (view v) ≡ false) }
@@ -211,7 +211,7 @@ fn admit(
 #[tactic(auto, unfolding(crate::specs::Admission::read_as))]
 pub fn admitted_tree(alloc: Global, row: &ResourceRow, tree: Value) -> Result<Value, ObjectError>
     requires ordered { is_ordered (view tree) ≡ true }
-    ensures tree { Gives told view result (read_as row.now (Some (view tree))) }
+    ensures tree { ResultIs told view result (read_as row.now (Some (view tree))) }
 
     // what is kept specifies what the tree specifies
     ensures given { IfOk result (λ v. given_of (view v) ≡ gives.given_on row.now (view tree)) }
@@ -241,7 +241,7 @@ pub fn admitted_tree(alloc: Global, row: &ResourceRow, tree: Value) -> Result<Va
 pub fn admit_tree(alloc: Global, row: &ResourceRow, tree: Value) -> Result<Object, ObjectError>
     requires ordered { is_ordered (view tree) ≡ true }
     requires nests { depth (view tree) ≤ max_depth }
-    ensures object { Gives told tree_of result (read_as row.now (Some (view tree))) }
+    ensures object { ResultIs told tree_of result (read_as row.now (Some (view tree))) }
 
     // the object specifies what the tree specifies
     ensures given { IfOk result (λ o. given_of (tree_of o) ≡ gives.given_on row.now (view tree)) }
@@ -256,7 +256,7 @@ pub fn admit_tree(alloc: Global, row: &ResourceRow, tree: Value) -> Result<Objec
 /// The object of a resource type that a body is, as the resource type keeps it.
 #[tactic(auto, unfolding(crate::specs::Admission::read_as))]
 pub fn read_object(alloc: Global, row: &ResourceRow, bytes: &[u8]) -> Result<Object, ObjectError>
-    ensures object { Gives told tree_of result (object_of row.now bytes.now) }
+    ensures object { ResultIs told tree_of result (object_of row.now bytes.now) }
 
     // the object specifies what the body specifies
     ensures given { IfOk result (λ o. (tree : Data)

@@ -2,8 +2,8 @@
 #![tactic(auto)]
 
 mod admission;
+pub mod body_fields;
 pub mod contents;
-pub mod given;
 mod merge;
 mod metadata;
 pub mod object;
@@ -21,7 +21,7 @@ pub mod typed_list;
 pub mod word;
 
 pub use admission::{admit_tree, admitted_tree, collect_faults, read_object, read_tree};
-pub use given::{Given, GivenText};
+pub use body_fields::{Given, GivenText};
 pub use merge::merge_patch;
 pub use metadata::push_fault;
 pub use object::Object;

@@ -5,7 +5,7 @@ ghost use Rattle.serde_json.specs.View.{view};
 ghost use Rattle.serde_json.specs.Written.{has_float};
 ghost use Rattle.kapi_object.specs.Order.{is_ordered};
 
-use crate::given::{Given, given_in};
+use crate::body_fields::{Given, given_in};
 use crate::tree::{has_text, with_content, with_member_of, with_text, without_member};
 use kapi_text::Memory;
 use serde_json::{Map, Value};

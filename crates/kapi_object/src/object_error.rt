@@ -1,6 +1,6 @@
 ghost use Rattle.std.specs.Prelude.{◌≡◌};
 
-use crate::given::Given;
+use crate::body_fields::Given;
 use kapi_model::FieldFault;
 use kapi_text::Sequence;
 use std::alloc::AllocError;

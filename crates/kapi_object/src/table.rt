@@ -2,7 +2,7 @@ ghost use Rattle.std.specs.Prelude.{◌≡◌};
 ghost use Rattle.kapi_object.specs.Tables.{rows_of};
 
 use crate::text_rule::TextRule;
-use crate::typed_list::Need;
+use crate::typed_list::Presence;
 use crate::word::Word;
 
 /// A condition on the members of an object, by which a part is chosen for another member.
@@ -27,28 +27,28 @@ pub enum Written {
 
 /// Which values a key may have.
 #[derive(Clone, Copy)]
-pub enum Part {
+pub enum ValueRule {
     /// Any value; it is not kept.
     Dropped,
     /// No value.
     Forbidden,
     Text(TextRule),
     /// A list of texts.
-    Texts(Need, TextRule),
+    Texts(Presence, TextRule),
     /// Labels.
     Labels,
     /// An object of the table.
-    Object(Need, Table),
+    Object(Presence, Table),
     /// A list of objects of the table.
-    Objects(Need, Written, Table),
+    Objects(Presence, Written, Table),
 }
 
 /// The part for a key: the one whose condition holds first, else the last.
 #[derive(Clone, Copy)]
 pub enum Choice {
-    One(Part),
-    Two(When, Part, Part),
-    Three(When, Part, When, Part, Part),
+    One(ValueRule),
+    Two(When, ValueRule, ValueRule),
+    Three(When, ValueRule, When, ValueRule, ValueRule),
 }
 
 /// A key, and which values it may have.
@@ -84,63 +84,82 @@ const ACCOUNT: When = When::Says(Word::Kind, Word::ServiceAccount, Word::Service
 
 const TOLD_KIND: When = When::Keeps(Word::Kind, TextRule::SubjectKind);
 
-const RULES: Part = Part::Objects(Need::Optional, Written::Always, Table::RoleRule);
+const RULES: ValueRule = ValueRule::Objects(Presence::Optional, Written::Always, Table::RoleRule);
 
-const CLUSTER_RULES: Part = Part::Objects(Need::Optional, Written::Always, Table::ClusterRoleRule);
+const CLUSTER_RULES: ValueRule = ValueRule::Objects(
+    Presence::Optional,
+    Written::Always,
+    Table::ClusterRoleRule,
+);
 
-const AGGREGATION: Part = Part::Object(Need::Optional, Table::AggregationRule);
+const AGGREGATION: ValueRule = ValueRule::Object(Presence::Optional, Table::AggregationRule);
 
-const ROLE_REFERENCE: Part = Part::Object(Need::Required, Table::RoleRef);
+const ROLE_REFERENCE: ValueRule = ValueRule::Object(Presence::Required, Table::RoleRef);
 
-const CLUSTER_ROLE_REFERENCE: Part = Part::Object(Need::Required, Table::ClusterRoleRef);
+const CLUSTER_ROLE_REFERENCE: ValueRule = ValueRule::Object(
+    Presence::Required,
+    Table::ClusterRoleRef,
+);
 
-const SUBJECTS: Part = Part::Objects(Need::Optional, Written::NotEmpty, Table::Subject);
+const SUBJECTS: ValueRule = ValueRule::Objects(
+    Presence::Optional,
+    Written::NotEmpty,
+    Table::Subject,
+);
 
-const CLUSTER_SUBJECTS: Part = Part::Objects(
-    Need::Optional,
+const CLUSTER_SUBJECTS: ValueRule = ValueRule::Objects(
+    Presence::Optional,
     Written::NotEmpty,
     Table::ClusterSubject,
 );
 
-const SELECTORS: Part = Part::Objects(Need::Required, Written::Always, Table::Selector);
+const SELECTORS: ValueRule = ValueRule::Objects(
+    Presence::Required,
+    Written::Always,
+    Table::Selector,
+);
 
-const REQUIREMENTS: Part = Part::Objects(Need::Optional, Written::NotEmpty, Table::Requirement);
+const REQUIREMENTS: ValueRule = ValueRule::Objects(
+    Presence::Optional,
+    Written::NotEmpty,
+    Table::Requirement,
+);
 
-const SOME_TEXTS: Part = Part::Texts(Need::Required, TextRule::Any);
+const SOME_TEXTS: ValueRule = ValueRule::Texts(Presence::Required, TextRule::Any);
 
-const NO_TEXTS: Part = Part::Texts(Need::Forbidden, TextRule::Any);
+const NO_TEXTS: ValueRule = ValueRule::Texts(Presence::Forbidden, TextRule::Any);
 
-const ANY_TEXTS: Part = Part::Texts(Need::Optional, TextRule::Any);
+const ANY_TEXTS: ValueRule = ValueRule::Texts(Presence::Optional, TextRule::Any);
 
-const SOME_VALUES: Part = Part::Texts(Need::Required, TextRule::LabelValue);
+const SOME_VALUES: ValueRule = ValueRule::Texts(Presence::Required, TextRule::LabelValue);
 
-const NO_VALUES: Part = Part::Texts(Need::Forbidden, TextRule::LabelValue);
+const NO_VALUES: ValueRule = ValueRule::Texts(Presence::Forbidden, TextRule::LabelValue);
 
-const ANY_VALUES: Part = Part::Texts(Need::Optional, TextRule::LabelValue);
+const ANY_VALUES: ValueRule = ValueRule::Texts(Presence::Optional, TextRule::LabelValue);
 
-const LABEL_KEY: Part = Part::Text(TextRule::LabelKey);
+const LABEL_KEY: ValueRule = ValueRule::Text(TextRule::LabelKey);
 
-const OPERATOR: Part = Part::Text(TextRule::Operator);
+const OPERATOR: ValueRule = ValueRule::Text(TextRule::Operator);
 
-const SUBJECT_KIND: Part = Part::Text(TextRule::SubjectKind);
+const SUBJECT_KIND: ValueRule = ValueRule::Text(TextRule::SubjectKind);
 
-const ACCOUNT_NAME: Part = Part::Text(TextRule::AccountName);
+const ACCOUNT_NAME: ValueRule = ValueRule::Text(TextRule::AccountName);
 
-const SOME_NAME: Part = Part::Text(TextRule::NotEmpty);
+const SOME_NAME: ValueRule = ValueRule::Text(TextRule::NotEmpty);
 
-const EMPTY_TEXT: Part = Part::Text(TextRule::Empty);
+const EMPTY_TEXT: ValueRule = ValueRule::Text(TextRule::Empty);
 
-const RBAC_GROUP_FILLED: Part = Part::Text(TextRule::RbacGroup);
+const RBAC_GROUP_FILLED: ValueRule = ValueRule::Text(TextRule::RbacGroup);
 
-const ANY_TEXT: Part = Part::Text(TextRule::Any);
+const ANY_TEXT: ValueRule = ValueRule::Text(TextRule::Any);
 
-const RBAC_GROUP_OR_EMPTY: Part = Part::Text(TextRule::RbacGroupOrEmpty);
+const RBAC_GROUP_OR_EMPTY: ValueRule = ValueRule::Text(TextRule::RbacGroupOrEmpty);
 
-const ROLE_KIND: Part = Part::Text(TextRule::RoleKind);
+const ROLE_KIND: ValueRule = ValueRule::Text(TextRule::RoleKind);
 
-const CLUSTER_ROLE_KIND: Part = Part::Text(TextRule::ClusterRoleKind);
+const CLUSTER_ROLE_KIND: ValueRule = ValueRule::Text(TextRule::ClusterRoleKind);
 
-const ROLE_NAME: Part = Part::Text(TextRule::RoleName);
+const ROLE_NAME: ValueRule = ValueRule::Text(TextRule::RoleName);
 
 const UNLESS_URLS: Choice = Choice::Two(URLS, NO_TEXTS, SOME_TEXTS);
 
@@ -152,9 +171,9 @@ const NAME: Choice = Choice::Two(ACCOUNT, ACCOUNT_NAME, SOME_NAME);
 
 const GROUP: Choice = Choice::Three(ACCOUNT, EMPTY_TEXT, TOLD_KIND, RBAC_GROUP_FILLED, ANY_TEXT);
 
-const PLACE: Choice = Choice::Two(ACCOUNT, ANY_TEXT, Part::Dropped);
+const PLACE: Choice = Choice::Two(ACCOUNT, ANY_TEXT, ValueRule::Dropped);
 
-const NAMED_PLACE: Choice = Choice::Two(ACCOUNT, SOME_NAME, Part::Dropped);
+const NAMED_PLACE: Choice = Choice::Two(ACCOUNT, SOME_NAME, ValueRule::Dropped);
 
 const ROLE: [Row; 1] = [Row(Word::Rules, Choice::One(RULES))];
 
@@ -192,7 +211,7 @@ const CLUSTER_ROLE_RULE: [Row; 5] = [
 const AGGREGATION_RULE: [Row; 1] = [Row(Word::ClusterRoleSelectors, Choice::One(SELECTORS))];
 
 const SELECTOR: [Row; 2] = [
-    Row(Word::MatchLabels, Choice::One(Part::Labels)),
+    Row(Word::MatchLabels, Choice::One(ValueRule::Labels)),
     Row(Word::MatchExpressions, Choice::One(REQUIREMENTS)),
 ];
 

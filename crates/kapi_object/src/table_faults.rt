@@ -13,10 +13,10 @@ ghost use Rattle.kapi_object.specs.Typed as typed;
 
 use crate::metadata::{Entries, push_entries_faults, push_fault};
 use crate::path::member_path;
-use crate::table::{Choice, Part, Row, Table, When, rows};
+use crate::table::{Choice, Row, Table, ValueRule, When, rows};
 use crate::text_rule::{is_right, push_text_faults_at};
 use crate::tree::member;
-use crate::typed_list::{Element, Need, is_given, push_list_faults_at, push_need_faults};
+use crate::typed_list::{Element, Presence, is_given, push_list_faults_at, push_need_faults};
 use kapi_model::{FaultKind, FieldFault, Schema};
 use kapi_text::Memory;
 use serde_json::Value;
@@ -48,7 +48,7 @@ fn passes(when: When, tree: &Value) -> bool
 }
 
 /// The part that is chosen for an object.
-pub fn chosen(choice: Choice, tree: &Value) -> Part
+pub fn chosen(choice: Choice, tree: &Value) -> ValueRule
     ensures { result ≡ shape.chosen choice (view tree.now) }
 {
     match choice {
@@ -196,7 +196,7 @@ fn push_object_faults_at<E: Element>(
     alloc: Global,
     faults: &mut Vec<FieldFault>,
     element: &E,
-    need: Need,
+    need: Presence,
     path: &str,
     key: &str,
     tree: &Value,
@@ -217,7 +217,7 @@ fn push_part_faults_at<L: Level>(
     alloc: Global,
     faults: &mut Vec<FieldFault>,
     below: &L,
-    part: Part,
+    part: ValueRule,
     path: &str,
     key: &str,
     tree: &Value,
@@ -226,18 +226,18 @@ fn push_part_faults_at<L: Level>(
         ++ part_faults L.faults_below part (typed.member_path path.now key.now) (member_of key.now (view tree.now))) }
 {
     match part {
-        Part::Dropped => Ok(()),
-        Part::Forbidden => push_forbidden_faults_at(alloc, faults, path, key, tree),
-        Part::Text(rule) => push_text_faults_at(alloc, faults, rule, path, key, tree),
-        Part::Texts(need, rule) => {
+        ValueRule::Dropped => Ok(()),
+        ValueRule::Forbidden => push_forbidden_faults_at(alloc, faults, path, key, tree),
+        ValueRule::Text(rule) => push_text_faults_at(alloc, faults, rule, path, key, tree),
+        ValueRule::Texts(need, rule) => {
             push_list_faults_at(alloc, faults, &rule, need, path, key, tree)
         }
-        Part::Labels => push_labels_faults_at(alloc, faults, path, key, tree),
-        Part::Object(need, table) => {
+        ValueRule::Labels => push_labels_faults_at(alloc, faults, path, key, tree),
+        ValueRule::Object(need, table) => {
             let inner = Inner { below, table };
             push_object_faults_at(alloc, faults, &inner, need, path, key, tree)
         }
-        Part::Objects(need, _written, table) => {
+        ValueRule::Objects(need, _written, table) => {
             let inner = Inner { below, table };
             push_list_faults_at(alloc, faults, &inner, need, path, key, tree)
         }

@@ -19,7 +19,7 @@ use std::alloc::Global;
 
 /// Whether a list may be empty.
 #[derive(Clone, Copy)]
-pub enum Need {
+pub enum Presence {
     /// The list must have an element.
     Required,
     /// The list may be absent or empty.
@@ -74,15 +74,15 @@ pub fn is_given(tree: &Value, key: &str) -> bool
 pub fn push_need_faults(
     alloc: Global,
     faults: &mut Vec<FieldFault>,
-    need: Need,
+    need: Presence,
     is_empty: bool,
     path: &str,
 ) -> Result<(), Memory>
     ensures { OnOk result (faults.new.items ≡ faults.old.items ++ need_faults need is_empty path.now) }
 {
     match (need, is_empty) {
-        (Need::Required, true) => push_fault(alloc, faults, path, FaultKind::Required),
-        (Need::Forbidden, false) => push_fault(alloc, faults, path, FaultKind::NotAllowedHere),
+        (Presence::Required, true) => push_fault(alloc, faults, path, FaultKind::Required),
+        (Presence::Forbidden, false) => push_fault(alloc, faults, path, FaultKind::NotAllowedHere),
         _other => Ok(()),
     }
 }
@@ -111,7 +111,7 @@ fn push_array_faults<E: Element>(
     alloc: Global,
     faults: &mut Vec<FieldFault>,
     element: &E,
-    need: Need,
+    need: Presence,
     path: &str,
     items: &Vec<Value>,
 ) -> Result<(), Memory>
@@ -129,7 +129,7 @@ fn push_list_faults<E: Element>(
     alloc: Global,
     faults: &mut Vec<FieldFault>,
     element: &E,
-    need: Need,
+    need: Presence,
     path: &str,
     value: &Value,
 ) -> Result<(), Memory>
@@ -148,7 +148,7 @@ pub fn push_list_faults_at<E: Element>(
     alloc: Global,
     faults: &mut Vec<FieldFault>,
     element: &E,
-    need: Need,
+    need: Presence,
     path: &str,
     key: &str,
     tree: &Value,

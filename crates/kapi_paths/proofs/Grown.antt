@@ -4,7 +4,7 @@ use Rattle.std.specs.List.{fold}
 use Rattle.std.proofs.lemmas.List.{get_or-set_same, get_or-set_other, length-set, length_push}
 use Rattle.std.proofs.lemmas.Option.{none-some, same_Some}
 use Rattle.std.proofs.lemmas.Bool.{cases_eq}
-use Rattle.kapi_paths.specs.declared.search.Found.{Found}
+use Rattle.kapi_paths.specs.declared.search.Discovered.{Discovered}
 use Rattle.kapi_paths.specs.Chains.{Has, row}
 use Rattle.kapi_paths.specs.Levels.{IsFoundAt, State, found_at, is_open, passed, vacant, visited}
 
@@ -28,20 +28,20 @@ has_push (a ∷ xs) y x (inr h) = elim (has_push xs y x h) as (λ _. (Has (a ∷
 -- ---- places of the table
 
 -- an open place: it is within the table, and nothing was found there
-pub open_parts : (table : List (Option Found)) (n : ℕ) → is_open table n ≡ true → (n < length table) × (found_at table n ≡ None)
+pub open_parts : (table : List (Option Discovered)) (n : ℕ) → is_open table n ≡ true → (n < length table) × (found_at table n ≡ None)
 open_parts [] n h = cc
 open_parts (None ∷ table) zero h = (omega arith, refl)
 open_parts (Some f ∷ table) zero h = cc
 open_parts (x ∷ table) (suc n) h = let p = open_parts table n h in (omega (arith, p.0), p.1)
 
 -- a place that is not open and within the table has what was found
-pub found_or_open : (table : List (Option Found)) (n : ℕ) → n < length table → is_open table n ≡ false → (f : Found) × (found_at table n ≡ Some f)
+pub found_or_open : (table : List (Option Discovered)) (n : ℕ) → n < length table → is_open table n ≡ false → (f : Discovered) × (found_at table n ≡ Some f)
 found_or_open [] n h e = absurd (omega arith)
 found_or_open (None ∷ table) zero h e = cc
 found_or_open (Some f ∷ table) zero h e = (f, refl)
 found_or_open (x ∷ table) (suc n) h e = found_or_open table n (omega arith) e
 
-pub vacant_set : (table : List (Option Found)) (n : ℕ) (f : Found) → is_open table n ≡ true → vacant (set table n (Some f)) + 1 ≡ vacant table
+pub vacant_set : (table : List (Option Discovered)) (n : ℕ) (f : Discovered) → is_open table n ≡ true → vacant (set table n (Some f)) + 1 ≡ vacant table
 vacant_set [] n f h = cc
 vacant_set (None ∷ table) zero f h = refl
 vacant_set (Some g ∷ table) zero f h = cc
@@ -51,7 +51,7 @@ vacant_set (Some g ∷ table) (suc n) f h = vacant_set table n f h
 -- ---- steps of a level
 
 -- by what the table has a node that it had not
-pub record IsNew (graph : List (List ℕ)) (steps : ℕ) (level : List ℕ) (next : List ℕ) (n : ℕ) (f : Found) : Type 0 where
+pub record IsNew (graph : List (List ℕ)) (steps : ℕ) (level : List ℕ) (next : List ℕ) (n : ℕ) (f : Discovered) : Type 0 where
   pub steps_are : f.steps ≡ steps
   pub source : Has level f.from
   pub leads : Has (row graph f.from) n
@@ -60,8 +60,8 @@ pub record IsNew (graph : List (List ℕ)) (steps : ℕ) (level : List ℕ) (nex
 -- what was found stays, and what came was found by a step from a node of the level
 pub record Grew (graph : List (List ℕ)) (steps : ℕ) (level : List ℕ) (s t : State) : Type 0 where
   pub size : length t.table ≡ length s.table
-  pub kept : (n : ℕ) (f : Found) → found_at s.table n ≡ Some f → found_at t.table n ≡ Some f
-  pub came : (n : ℕ) (f : Found) → found_at t.table n ≡ Some f → (found_at s.table n ≡ Some f) ⊎ IsNew graph steps level t.next n f
+  pub kept : (n : ℕ) (f : Discovered) → found_at s.table n ≡ Some f → found_at t.table n ≡ Some f
+  pub came : (n : ℕ) (f : Discovered) → found_at t.table n ≡ Some f → (found_at s.table n ≡ Some f) ⊎ IsNew graph steps level t.next n f
   pub listed : (n : ℕ) → Has t.next n → Has s.next n ⊎ IsFoundAt t.table n steps
   pub more : (n : ℕ) → Has s.next n → Has t.next n
   pub count : vacant t.table + length t.next ≡ vacant s.table + length s.next
@@ -89,7 +89,7 @@ grew_then {graph} {steps} {level} {s} {t} {u} a b = record {
 }
 
 -- after a step to an open node
-grew_open : (graph : List (List ℕ)) (level : List ℕ) (f : Found) (s : State) (n : ℕ) → Has level f.from → Has (row graph f.from) n → is_open s.table n ≡ true
+grew_open : (graph : List (List ℕ)) (level : List ℕ) (f : Discovered) (s : State) (n : ℕ) → Has level f.from → Has (row graph f.from) n → is_open s.table n ≡ true
     → Grew graph f.steps level s (record { table = set s.table n (Some f); next = s.next ++ n ∷ [] })
 grew_open graph level f s n at_level leads h =
     let p = open_parts s.table n h in
@@ -101,7 +101,7 @@ grew_open graph level f s n at_level leads h =
           (λ e. get_or-set_other s.table n m (Some f) None e ∙ k) (cases_eq m n);
       came = λ m g k. ⊎_elim
           (λ e. let e2 : f ≡ g = same_Some f g (sym same ∙ subst (λ i. found_at (set s.table n (Some f)) i ≡ Some g) e k) in
-          inr (subst (λ (i : ℕ × Found). IsNew graph f.steps level (s.next ++ n ∷ []) i.0 i.1) (ap (λ (i : ℕ). (i, f)) (sym e) ∙ ap (λ (i : Found). (m, i)) e2)
+          inr (subst (λ (i : ℕ × Discovered). IsNew graph f.steps level (s.next ++ n ∷ []) i.0 i.1) (ap (λ (i : ℕ). (i, f)) (sym e) ∙ ap (λ (i : Discovered). (m, i)) e2)
           (record { steps_are = refl; source = at_level; leads = leads; listed = has_last s.next n })))
           (λ e. inl (sym (get_or-set_other s.table n m (Some f) None e) ∙ k)) (cases_eq m n);
       listed = λ m k. ⊎_elim (λ i. inl i) (λ e. inr (subst (λ i. IsFoundAt (set s.table n (Some f)) i f.steps) e (f, same, refl))) (has_push s.next n m k);
@@ -109,7 +109,7 @@ grew_open graph level f s n at_level leads h =
       count = omega (arith, vacant_set s.table n f h, length_push s.next n);
     }
 
-pub grew_visited : (graph : List (List ℕ)) (level : List ℕ) (f : Found) (s : State) (n : ℕ) → Has level f.from → Has (row graph f.from) n → Grew graph f.steps level s (visited f s n)
+pub grew_visited : (graph : List (List ℕ)) (level : List ℕ) (f : Discovered) (s : State) (n : ℕ) → Has level f.from → Has (row graph f.from) n → Grew graph f.steps level s (visited f s n)
 unfolding visited
 grew_visited graph level f s n at_level leads =
     elim (is_open s.table n) as (λ b. is_open s.table n ≡ b → Grew graph f.steps level s (cond b (record { table = set s.table n (Some f); next = s.next ++ n ∷ [] }) s)) [
@@ -117,24 +117,24 @@ grew_visited graph level f s n at_level leads =
       | false ↦ λ h. grew_none graph f.steps level s
     ] refl
 
-pub visited_finds : (f : Found) (s : State) (n : ℕ) → n < length s.table → (g : Found) × (found_at (visited f s n).table n ≡ Some g)
+pub visited_finds : (f : Discovered) (s : State) (n : ℕ) → n < length s.table → (g : Discovered) × (found_at (visited f s n).table n ≡ Some g)
 unfolding visited
 visited_finds f s n inside =
-    elim (is_open s.table n) as (λ b. is_open s.table n ≡ b → (g : Found) × (found_at (cond b (record { table = set s.table n (Some f); next = s.next ++ n ∷ [] }) s).table n ≡ Some g)) [
+    elim (is_open s.table n) as (λ b. is_open s.table n ≡ b → (g : Discovered) × (found_at (cond b (record { table = set s.table n (Some f); next = s.next ++ n ∷ [] }) s).table n ≡ Some g)) [
       | true ↦ λ h. (f, get_or-set_same s.table n (Some f) None inside)
       | false ↦ λ h. found_or_open s.table n inside h
     ] refl
 
 -- ---- rows and levels
 
-pub row_grew : (graph : List (List ℕ)) (level : List ℕ) (f : Found) (ns : List ℕ) (s : State) → Has level f.from → ((n : ℕ) → Has ns n → Has (row graph f.from) n)
+pub row_grew : (graph : List (List ℕ)) (level : List ℕ) (f : Discovered) (ns : List ℕ) (s : State) → Has level f.from → ((n : ℕ) → Has ns n → Has (row graph f.from) n)
     → Grew graph f.steps level s (fold (visited f) s ns)
 row_grew graph level f [] s h all = grew_none graph f.steps level s
 row_grew graph level f (n ∷ ns) s h all =
     grew_then (grew_visited graph level f s n h (all n (inl refl))) (row_grew graph level f ns (visited f s n) h (λ m k. all m (inr k)))
 
-pub row_finds : (graph : List (List ℕ)) (level : List ℕ) (f : Found) (ns : List ℕ) (s : State) → Has level f.from → ((n : ℕ) → Has ns n → Has (row graph f.from) n)
-    → (n : ℕ) → Has ns n → n < length s.table → (g : Found) × (found_at (fold (visited f) s ns).table n ≡ Some g)
+pub row_finds : (graph : List (List ℕ)) (level : List ℕ) (f : Discovered) (ns : List ℕ) (s : State) → Has level f.from → ((n : ℕ) → Has ns n → Has (row graph f.from) n)
+    → (n : ℕ) → Has ns n → n < length s.table → (g : Discovered) × (found_at (fold (visited f) s ns).table n ≡ Some g)
 row_finds graph level f [] s h all n k inside = absurd k
 row_finds graph level f (m ∷ ns) s h all n (inl e) inside =
     let found = visited_finds f s n inside in
@@ -143,7 +143,7 @@ row_finds graph level f (m ∷ ns) s h all n (inr k) inside =
     let size : length (visited f s m).table ≡ length s.table = (grew_visited graph level f s m h (all m (inl refl))).size in
     row_finds graph level f ns (visited f s m) h (λ i j. all i (inr j)) n k (omega arith)
 
-abbrev pub by : ℕ → ℕ → Found
+abbrev pub by : ℕ → ℕ → Discovered
 by steps n = record { steps = steps; from = n }
 
 pub level_grew : (graph : List (List ℕ)) (steps : ℕ) (level ns : List ℕ) (s : State) → ((n : ℕ) → Has ns n → Has level n) → Grew graph steps level s (fold (passed graph steps) s ns)
@@ -152,7 +152,7 @@ level_grew graph steps level (n ∷ ns) s all =
     grew_then (row_grew graph level (by steps n) (row graph n) s (all n (inl refl)) (λ m k. k)) (level_grew graph steps level ns (passed graph steps s n) (λ m k. all m (inr k)))
 
 pub level_finds : (graph : List (List ℕ)) (steps : ℕ) (level ns : List ℕ) (s : State) → ((n : ℕ) → Has ns n → Has level n)
-    → (n m : ℕ) → Has ns n → Has (row graph n) m → m < length s.table → (g : Found) × (found_at (fold (passed graph steps) s ns).table m ≡ Some g)
+    → (n m : ℕ) → Has ns n → Has (row graph n) m → m < length s.table → (g : Discovered) × (found_at (fold (passed graph steps) s ns).table m ≡ Some g)
 level_finds graph steps level [] s all n m k leads inside = absurd k
 level_finds graph steps level (a ∷ ns) s all n m (inl e) leads inside =
     let found = row_finds graph level (by steps n) (row graph n) s (all n (inl e)) (λ i k. k) m leads inside in

@@ -5,7 +5,7 @@ use Rattle.std.proofs.lemmas.List.{get_or-set_same, get_or-set_other, length-set
 use Rattle.std.proofs.lemmas.Option.{none-some, same_Some}
 use Rattle.std.proofs.lemmas.Bool.{cases_eq, cases_lt}
 use Rattle.std.proofs.lemmas.Bool.Decides.{nat_tests}
-use Rattle.kapi_paths.specs.declared.search.Found.{Found}
+use Rattle.kapi_paths.specs.declared.search.Discovered.{Discovered}
 use Rattle.kapi_paths.specs.Chains.{Has, IsChain, IsInside, row}
 use Rattle.kapi_paths.specs.Levels.{IsFoundAt, IsFoundWithin, IsRight, IsSearched, State, found_at, is_open, passed, started, vacant}
 use Rattle.kapi_paths.proofs.Grown.{Grew, by, level_finds, level_grew, vacant_set}
@@ -14,11 +14,11 @@ use Rattle.kapi_paths.proofs.Grown.{Grew, by, level_finds, level_grew, vacant_se
 pub record Levelled (graph : List (List ℕ)) (start : ℕ) (steps : ℕ) (s : State) : Type 0 where
   pub size : length s.table ≡ length graph
   pub first : IsFoundAt s.table start 0
-  pub right : (n : ℕ) (f : Found) → found_at s.table n ≡ Some f → IsRight graph start s.table n f
-  pub bound : (n : ℕ) (f : Found) → found_at s.table n ≡ Some f → f.steps ≤ steps
-  pub level : (n : ℕ) (f : Found) → found_at s.table n ≡ Some f → f.steps ≡ steps → Has s.next n
+  pub right : (n : ℕ) (f : Discovered) → found_at s.table n ≡ Some f → IsRight graph start s.table n f
+  pub bound : (n : ℕ) (f : Discovered) → found_at s.table n ≡ Some f → f.steps ≤ steps
+  pub level : (n : ℕ) (f : Discovered) → found_at s.table n ≡ Some f → f.steps ≡ steps → Has s.next n
   pub there : (n : ℕ) → Has s.next n → IsFoundAt s.table n steps
-  pub closed : (n m : ℕ) (f : Found) → found_at s.table n ≡ Some f → f.steps < steps → Has (row graph n) m → IsFoundWithin s.table m (f.steps + 1)
+  pub closed : (n m : ℕ) (f : Discovered) → found_at s.table n ≡ Some f → f.steps < steps → Has (row graph n) m → IsFoundWithin s.table m (f.steps + 1)
 
 -- ---- the start
 
@@ -28,17 +28,17 @@ nothing_yet (suc size) zero = refl
 nothing_yet (suc size) (suc n) = nothing_yet size n
 
 -- a table with nothing found
-abbrev empty : ℕ → List (Option Found)
+abbrev empty : ℕ → List (Option Discovered)
 empty size = replicate size None
 
 long : (size start : ℕ) → start < size → start < length (empty size)
 long size start h = let e : length (empty size) ≡ size = length-replicate size None in omega (arith, e)
 
-only_start : (size start n : ℕ) (f : Found) → start < size → found_at (started size start).table n ≡ Some f → (start ≡ n) × (f.steps ≡ 0)
+only_start : (size start n : ℕ) (f : Discovered) → start < size → found_at (started size start).table n ≡ Some f → (start ≡ n) × (f.steps ≡ 0)
 only_start size start n f inside h = ⊎_elim
     (λ e. (
       sym e,
-      ap (λ (i : Found). i.steps) (same_Some f (by 0 start)
+      ap (λ (i : Discovered). i.steps) (same_Some f (by 0 start)
           (sym h ∙ (ap (λ i. found_at (started size start).table i) e ∙ get_or-set_same (empty size) start (Some (by 0 start)) None (long size start inside)))),
     ))
     (λ e. absurd (none-some f (sym (nothing_yet size n) ∙ (sym (get_or-set_other (empty size) start n (Some (by 0 start)) None e) ∙ h))))
@@ -72,8 +72,8 @@ room_start size start h = omega (arith, vacant_set (empty size) start (by 0 star
 
 -- ---- a level
 
-right_kept : (graph : List (List ℕ)) (start : ℕ) (old new : List (Option Found)) (n : ℕ) (f : Found)
-    → ((m : ℕ) (g : Found) → found_at old m ≡ Some g → found_at new m ≡ Some g) → IsRight graph start old n f → IsRight graph start new n f
+right_kept : (graph : List (List ℕ)) (start : ℕ) (old new : List (Option Discovered)) (n : ℕ) (f : Discovered)
+    → ((m : ℕ) (g : Discovered) → found_at old m ≡ Some g → found_at new m ≡ Some g) → IsRight graph start old n f → IsRight graph start new n f
 right_kept graph start old new n f kept (inl h) = inl h
 right_kept graph start old new n f kept (inr (k, is, leads, (g, here, steps))) = inr (k, is, leads, (g, kept f.from g here, steps))
 
@@ -84,7 +84,7 @@ after graph steps s = fold (passed graph (steps + 1)) (record { table = s.table;
 pub levelled_more : (graph : List (List ℕ)) (start steps : ℕ) (s : State) → IsInside graph → Levelled graph start steps s → Levelled graph start (steps + 1) (after graph steps s)
 levelled_more graph start steps s inside a =
     let g : Grew graph (steps + 1) s.next (record { table = s.table; next = [] }) (after graph steps s) = level_grew graph (steps + 1) s.next s.next (record { table = s.table; next = [] }) (λ n k. k) in
-    let bound : (n : ℕ) (f : Found) → found_at (after graph steps s).table n ≡ Some f → f.steps ≤ steps + 1 =
+    let bound : (n : ℕ) (f : Discovered) → found_at (after graph steps s).table n ≡ Some f → f.steps ≤ steps + 1 =
     λ n f h. ⊎_elim (λ k. let b = a.bound n f k in omega (arith, b)) (λ i. let e = i.steps_are in omega (arith, e)) (g.came n f h) in
     record {
       size = g.size ∙ a.size;
@@ -124,15 +124,15 @@ searched graph start steps s a last = record {
 }
 
 -- a chain of steps leads to what is found, in no more steps
-pub within_chain : (graph : List (List ℕ)) (start : ℕ) (table : List (Option Found)) → IsSearched graph start table
-    → (path : List ℕ) (n m : ℕ) (f : Found) → found_at table n ≡ Some f → IsChain graph n path m → IsFoundWithin table m (f.steps + length path)
+pub within_chain : (graph : List (List ℕ)) (start : ℕ) (table : List (Option Discovered)) → IsSearched graph start table
+    → (path : List ℕ) (n m : ℕ) (f : Discovered) → found_at table n ≡ Some f → IsChain graph n path m → IsFoundWithin table m (f.steps + length path)
 within_chain graph start table a [] n m f h e = (f, subst (λ i. found_at table i ≡ Some f) e h, omega arith)
 within_chain graph start table a (k ∷ path) n m f h (leads, rest) =
     let p = a.closed n k f h leads in
     let q = within_chain graph start table a path k m p.0 p.1 rest in
     (q.0, q.1, let x = p.2 in let y = q.2 in omega (arith, x, y))
 
-pub shortest : (graph : List (List ℕ)) (start : ℕ) (table : List (Option Found)) → IsSearched graph start table
+pub shortest : (graph : List (List ℕ)) (start : ℕ) (table : List (Option Discovered)) → IsSearched graph start table
     → (path : List ℕ) (m : ℕ) → IsChain graph start path m → IsFoundWithin table m (length path)
 shortest graph start table a path m chain =
     let p = within_chain graph start table a path start m a.first.0 a.first.1 chain in
@@ -141,8 +141,8 @@ shortest graph start table a path m chain =
 -- ---- the way back
 
 -- a step back: from where a step led to the node
-pub step_back : (graph : List (List ℕ)) (start : ℕ) (table : List (Option Found)) → IsSearched graph start table → (n left before : ℕ)
-    → IsFoundAt table n left → 0 < left → ((f : Found) → found_at table n ≡ Some f → before ≡ f.from) → IsFoundAt table before (left - 1) × Has (row graph before) n
+pub step_back : (graph : List (List ℕ)) (start : ℕ) (table : List (Option Discovered)) → IsSearched graph start table → (n left before : ℕ)
+    → IsFoundAt table n left → 0 < left → ((f : Discovered) → found_at table n ≡ Some f → before ≡ f.from) → IsFoundAt table before (left - 1) × Has (row graph before) n
 step_back graph start table a n left before (f, here, is) some back =
     let e : f.from ≡ before = sym (back f here) in
     ⊎_elim
@@ -151,20 +151,20 @@ step_back graph start table a n left before (f, here, is) some back =
     (subst (λ i. IsFoundAt table i (left - 1)) e (subst (λ j. IsFoundAt table f.from j) steps k.3), subst (λ i. Has (row graph i) n) e k.2))
     (a.right n f here)
 
-pub at_start : (graph : List (List ℕ)) (start : ℕ) (table : List (Option Found)) → IsSearched graph start table → (n : ℕ) → IsFoundAt table n 0 → start ≡ n
+pub at_start : (graph : List (List ℕ)) (start : ℕ) (table : List (Option Discovered)) → IsSearched graph start table → (n : ℕ) → IsFoundAt table n 0 → start ≡ n
 at_start graph start table a n (f, here, is) =
     ⊎_elim (λ k. k.1) (λ k. let z = k.1 in absurd (omega (arith, z, is))) (a.right n f here)
 
 -- ---- what the answers say
 
-pub is_shortest : (graph : List (List ℕ)) (start : ℕ) (table : List (Option Found)) → IsSearched graph start table → (m n : ℕ) (f : Found) → found_at table m ≡ Some f
+pub is_shortest : (graph : List (List ℕ)) (start : ℕ) (table : List (Option Discovered)) → IsSearched graph start table → (m n : ℕ) (f : Discovered) → found_at table m ≡ Some f
     → n ≡ f.steps → (path : List ℕ) → IsChain graph start path m → n ≤ length path
 is_shortest graph start table a m n f here is path chain =
     let p = shortest graph start table a path m chain in
-    let e : f.steps ≡ p.0.steps = ap (λ (i : Found). i.steps) (same_Some f p.0 (sym here ∙ p.1)) in
+    let e : f.steps ≡ p.0.steps = ap (λ (i : Discovered). i.steps) (same_Some f p.0 (sym here ∙ p.1)) in
     let le = p.2 in omega (arith, e, le, is)
 
-pub is_none : (graph : List (List ℕ)) (start : ℕ) (table : List (Option Found)) → IsSearched graph start table → (m : ℕ) → found_at table m ≡ None
+pub is_none : (graph : List (List ℕ)) (start : ℕ) (table : List (Option Discovered)) → IsSearched graph start table → (m : ℕ) → found_at table m ≡ None
     → (path : List ℕ) → IsChain graph start path m → ⊥
 is_none graph start table a m here path chain = let p = shortest graph start table a path m chain in none-some p.0 (sym here ∙ p.1)
 

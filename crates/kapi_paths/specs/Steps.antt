@@ -15,7 +15,7 @@ use Rattle.kapi_rules.specs.Entries.{names_match, resource_matches, word_matches
 use Rattle.kapi_policy.specs.Decided.{Binding, rules_of}
 use Rattle.kapi_policy.specs.Objects.{PolicyObjects}
 use Rattle.kapi_policy.specs.declared.change.NamespacedName.{NamespacedName}
-use Rattle.kapi_guard.specs.Impersonation.{own_groups, service_account}
+use Rattle.kapi_escalation.specs.Impersonation.{own_groups, service_account}
 use Rattle.kapi_paths.specs.declared.node.Node.{Node}
 use Rattle.kapi_paths.specs.declared.node.NodeKind.{NodeKind}
 use Rattle.kapi_paths.specs.declared.node.NodeKind.TheVariants as kind

@@ -3,7 +3,7 @@ ghost use Rattle.std.specs.Prelude.{◌≡◌, ◌==◌, ◌<◌, ◌≤◌, ℕ
 ghost use Rattle.std.specs.List.{fold};
 ghost use Rattle.kapi_paths.specs.Chains.{IsChain, IsInside, row as row_of};
 ghost use Rattle.kapi_paths.specs.Levels.{IsFoundAt, IsSearched, found_at, is_open as is_open_in, passed, started, visited};
-ghost use Rattle.kapi_paths.specs.declared.search.Found.{Found as ByWhat};
+ghost use Rattle.kapi_paths.specs.declared.search.Discovered.{Discovered as ByWhat};
 
 use kapi_text::{Memory, Sequence};
 use std::alloc::Global;
@@ -12,7 +12,7 @@ use std::mem;
 
 /// How a node is found: after so many steps, the last of them from that node.
 #[derive(Clone, Copy)]
-pub struct Found {
+pub struct Discovered {
     pub steps: usize,
     pub from: usize,
 }
@@ -29,7 +29,7 @@ fn row(graph: &[Sequence<usize>], node: usize) -> &[usize]
 // What is found so far, by node, and the nodes of the next level.
 #[derive(Drop)]
 struct Front {
-    table: Vec<Option<Found>>,
+    table: Vec<Option<Discovered>>,
     next: Vec<usize>,
 }
 
@@ -48,7 +48,7 @@ impl Front {
     {
         let mut table = vec![in alloc; None; size]?;
         let next = vec![in alloc; from]?;
-        table[from] = Some(Found { steps: 0, from });
+        table[from] = Some(Discovered { steps: 0, from });
         Ok(Front { table, next })
     }
 
@@ -65,7 +65,7 @@ impl Front {
         mem::replace(&mut self.next, Vec::new(alloc))
     }
 
-    fn into_table(self) -> Vec<Option<Found>>
+    fn into_table(self) -> Vec<Option<Discovered>>
         ensures { result.items ≡ self.table }
     {
         self.table
@@ -81,7 +81,7 @@ impl Front {
     }
 
     #[tactic(auto, unfolding(crate::specs::Levels::visited))]
-    fn visit(&mut self, node: usize, found: Found) -> Result<(), Memory>
+    fn visit(&mut self, node: usize, found: Discovered) -> Result<(), Memory>
         ensures { OnOk result (self.new ≡ visited found self.old node) }
     {
         if self.is_open(node) {
@@ -91,7 +91,7 @@ impl Front {
         Ok(())
     }
 
-    fn pass_row(&mut self, nodes: &[usize], found: Found) -> Result<(), Memory>
+    fn pass_row(&mut self, nodes: &[usize], found: Discovered) -> Result<(), Memory>
         ensures { OnOk result (self.new ≡ fold (visited found) self.old nodes.now) }
     {
         for node in nodes {
@@ -109,7 +109,7 @@ impl Front {
         ensures { OnOk result (self.new ≡ fold (passed graph.now steps) self.old level.now) }
     {
         for node in level {
-            self.pass_row(row(graph, *node), Found { steps, from: *node })?;
+            self.pass_row(row(graph, *node), Discovered { steps, from: *node })?;
         }
         Ok(())
     }
@@ -121,7 +121,7 @@ fn table(
     alloc: Global,
     graph: &[Sequence<usize>],
     from: usize,
-) -> Result<Vec<Option<Found>>, Memory>
+) -> Result<Vec<Option<Discovered>>, Memory>
     requires inside { IsInside graph.now }
     requires from { from < length graph.now }
     ensures { IfOk result (λ t. IsSearched graph.now from t.items) }
@@ -141,7 +141,7 @@ fn table(
 pub struct Search<'g> {
     graph: &'g [Sequence<usize>],
     start: usize,
-    table: Vec<Option<Found>>,
+    table: Vec<Option<Discovered>>,
 }
 
 impl<'g> Model for Search<'g> {
@@ -181,7 +181,7 @@ impl<'g> Search<'g> {
         self.start
     }
 
-    fn found(&self, node: usize) -> Option<Found>
+    fn found(&self, node: usize) -> Option<Discovered>
         ensures { result ≡ found_at self.now.table node }
     {
         match self.table.get(node) {

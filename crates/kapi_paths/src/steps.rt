@@ -13,7 +13,7 @@ ghost use Rattle.kapi_paths.specs.Steps.{named};
 use crate::bound::{Bound, is_marked};
 use crate::node::{Node, NodeKind, push_node};
 use crate::right::{Leads, Names, Right};
-use kapi_guard::own_groups;
+use kapi_escalation::own_groups;
 use kapi_model::{Identity, PolicyRule, RoleKind, RoleRef, account_user, subject_matches};
 use kapi_policy::{Binding, NamespacedName, Policy};
 use kapi_rules::{is_listed, some_word_matches, word_matches};

@@ -1,6 +1,6 @@
 ghost use Rattle.std.specs.Prelude.{◌≡◌, length, Ok, IfOk};
 ghost use Rattle.serde_json.specs.View.{view};
-ghost use Rattle.kapi_text.specs.Gives.{Gives};
+ghost use Rattle.kapi_text.specs.ResultIs.{ResultIs};
 ghost use Rattle.kapi_model.specs.declared.row.Schema.TheVariants as schema;
 ghost use Rattle.kapi_object.specs.Contents as form;
 ghost use Rattle.kapi_object.specs.Object.{tree_of};
@@ -37,7 +37,7 @@ fn cluster_role_binding(alloc: Global, tree: &Value) -> Result<ClusterRoleBindin
 /// The role binding that an object is, or what is wrong with it.
 #[tactic(auto, unfolding(crate::specs::Trees::read_as), using(crate::proofs::Laws::role_binding_writes_back))]
 pub fn read_role_binding(alloc: Global, object: &Object) -> Result<RoleBinding, ReadFault>
-    ensures read { Gives told (λ b. b) result (read_as schema.RoleBinding role_binding_of (tree_of object.now)) }
+    ensures read { ResultIs told (λ b. b) result (read_as schema.RoleBinding role_binding_of (tree_of object.now)) }
 
     // the binding, written again, is the object, where the object is as it was admitted
     ensures writes_back { IfOk result (λ b. IsKept schema.RoleBinding (tree_of object.now)
@@ -53,7 +53,7 @@ pub fn read_cluster_role_binding(
     alloc: Global,
     object: &Object,
 ) -> Result<ClusterRoleBinding, ReadFault>
-    ensures read { Gives told (λ b. b) result
+    ensures read { ResultIs told (λ b. b) result
         (read_as schema.ClusterRoleBinding cluster_role_binding_of (tree_of object.now)) }
 
     // the binding, written again, is the object, where the object is as it was admitted

@@ -1,5 +1,5 @@
 ghost use Rattle.std.specs.Prelude.{◌≡◌};
-ghost use Rattle.kapi_text.specs.Gives.{Gives};
+ghost use Rattle.kapi_text.specs.ResultIs.{ResultIs};
 ghost use Rattle.kapi_object.specs.Object.{tree_of};
 ghost use Rattle.kapi_rbac_types.specs.Trees.{read_as, told};
 
@@ -29,7 +29,7 @@ impl From<AllocError> for ReadFault {
 /// Whether an object has no fault for a resource type with this schema.
 #[tactic(auto, unfolding(crate::specs::Trees::read_as))]
 pub fn check(alloc: Global, object: &Object, schema: Schema) -> Result<(), ReadFault>
-    ensures { Gives told (λ u. u) result (read_as schema (λ d. tt) (tree_of object.now)) }
+    ensures { ResultIs told (λ u. u) result (read_as schema (λ d. tt) (tree_of object.now)) }
 {
     let faults = collect_faults(alloc, schema, object.as_tree())?;
     if faults.is_empty() {

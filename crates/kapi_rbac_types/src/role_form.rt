@@ -1,6 +1,6 @@
 ghost use Rattle.std.specs.Prelude.{◌≡◌, length, Ok, IfOk};
 ghost use Rattle.serde_json.specs.View.{view};
-ghost use Rattle.kapi_text.specs.Gives.{Gives};
+ghost use Rattle.kapi_text.specs.ResultIs.{ResultIs};
 ghost use Rattle.kapi_model.specs.declared.row.Schema.TheVariants as schema;
 ghost use Rattle.kapi_object.specs.Contents as form;
 ghost use Rattle.kapi_object.specs.Object.{tree_of};
@@ -41,7 +41,7 @@ pub fn cluster_role(alloc: Global, tree: &Value) -> Result<ClusterRole, Memory>
 /// The role that an object is, or what is wrong with it.
 #[tactic(auto, unfolding(crate::specs::Trees::read_as), using(crate::proofs::Laws::role_writes_back))]
 pub fn read_role(alloc: Global, object: &Object) -> Result<Role, ReadFault>
-    ensures read { Gives told (λ r. r) result (read_as schema.Role role_of (tree_of object.now)) }
+    ensures read { ResultIs told (λ r. r) result (read_as schema.Role role_of (tree_of object.now)) }
 
     // the role, written again, is the object, where the object is as it was admitted
     ensures writes_back { IfOk result (λ r. IsKept schema.Role (tree_of object.now)
@@ -54,7 +54,7 @@ pub fn read_role(alloc: Global, object: &Object) -> Result<Role, ReadFault>
 /// The cluster role that an object is, or what is wrong with it.
 #[tactic(auto, unfolding(crate::specs::Trees::read_as), using(crate::proofs::Laws::cluster_role_writes_back))]
 pub fn read_cluster_role(alloc: Global, object: &Object) -> Result<ClusterRole, ReadFault>
-    ensures read { Gives told (λ r. r) result (read_as schema.ClusterRole cluster_role_of (tree_of object.now)) }
+    ensures read { ResultIs told (λ r. r) result (read_as schema.ClusterRole cluster_role_of (tree_of object.now)) }
 
     // the cluster role, written again, is the object, where the object is as it was admitted
     ensures writes_back { IfOk result (λ r. IsKept schema.ClusterRole (tree_of object.now)

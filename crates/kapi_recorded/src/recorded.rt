@@ -9,8 +9,8 @@ ghost use Rattle.kapi_serve.specs.declared.port.Entry.{Entry as AnEntry};
 ghost use Rattle.kapi_serve.specs.declared.port.Entry.TheVariants as entry;
 
 use kapi_core::Core;
-use kapi_desk::Desk;
 use kapi_policy::Policy;
+use kapi_publishing::Desk;
 use kapi_serve::{Entry, PortEvent, PortFault, Ports, serve_loop};
 use kapi_text::{Sequence, TryCopy};
 use std::alloc::Global;

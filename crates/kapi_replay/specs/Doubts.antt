@@ -14,9 +14,9 @@ use Rattle.kapi_rules.specs.declared.point.Point.{Point}
 use Rattle.kapi_rules.specs.declared.point.Point.TheVariants as point
 use Rattle.kapi_transcripts.specs.declared.case.Case.{Case}
 use Rattle.kapi_transcripts.specs.declared.case.ScriptLine.{ScriptLine}
-use Rattle.kapi_transcripts.specs.declared.case.Want.{Want}
-use Rattle.kapi_transcripts.specs.declared.wanted.Wanted.{Wanted}
-use Rattle.kapi_transcripts.specs.declared.wanted.Wanted.TheVariants as wants
+use Rattle.kapi_transcripts.specs.declared.case.Expectation.{Expectation}
+use Rattle.kapi_transcripts.specs.declared.wanted.Expected.{Expected}
+use Rattle.kapi_transcripts.specs.declared.wanted.Expected.TheVariants as wants
 use Rattle.kapi_transcripts.specs.Asked.{attributes_of}
 
 -- the resource of a point, if the table does not have it in this version
@@ -30,7 +30,7 @@ unserved table None = None
 unserved table (Some a) = unserved_point table a.version a.point
 
 -- a reply of code 403 is wanted
-abbrev pub wants_refusal : Wanted → Bool
+abbrev pub wants_refusal : Expected → Bool
 wants_refusal (wants.Reply code text) = bytes_eq code (codes "403")
 wants_refusal w = false
 
@@ -40,7 +40,7 @@ doubt_about n None = []
 doubt_about n (Some resource) = record { number = n; resource = resource } ∷ []
 
 -- the doubt about what is wanted: it is 403, of a request about a resource that is not served
-abbrev pub doubt : List ResourceRow → List (List ℕ) → List ScriptLine → Want → List Doubt
+abbrev pub doubt : List ResourceRow → List (List ℕ) → List ScriptLine → Expectation → List Doubt
 doubt table lines script w =
     if wants_refusal w.wanted then doubt_about w.number (unserved table (attributes_of (line_at lines (number_at script w.events)))) else []
 

@@ -15,7 +15,7 @@ use Rattle.kapi_transcripts.specs.Wants.{is_met}
 use Rattle.kapi_transcripts.specs.declared.case.Case.{Case}
 use Rattle.kapi_transcripts.specs.declared.case.ScriptLine.{ScriptLine}
 use Rattle.kapi_transcripts.specs.declared.case.Loaded.{Loaded}
-use Rattle.kapi_transcripts.specs.declared.case.Want.{Want}
+use Rattle.kapi_transcripts.specs.declared.case.Expectation.{Expectation}
 use Rattle.kapi_transcripts.specs.declared.failure.Failure.{Failure}
 use Rattle.kapi_transcripts.specs.declared.failure.Failure.TheVariants as failure
 use Rattle.kapi_script.specs.Scripts.{first_bad, lines, said}
@@ -38,7 +38,7 @@ abbrev pub number_at : List ScriptLine → ℕ → ℕ
 number_at script n = number_or (nth script n)
 
 -- the failure of what is wanted, where the answer differs
-abbrev pub unmet : List ScriptLine → List (List ℕ) → Want → List Failure
+abbrev pub unmet : List ScriptLine → List (List ℕ) → Expectation → List Failure
 unmet script answers w =
     if is_met w.wanted (line_at answers w.events) then []
     else failure.Differs (record { number = w.number; asked = number_at script w.events; events = w.events; answer = line_at answers w.events; reason = [] }) ∷ []

@@ -12,7 +12,7 @@ use Rattle.kapi_model.specs.declared.row.ResourceRow.{ResourceRow}
 use Rattle.kapi_manifests.specs.declared.fault.Fault.{Fault}
 use Rattle.kapi_manifests.specs.declared.fault.Origin.{Origin}
 use Rattle.kapi_manifests.specs.declared.prepared.Prepared.{Prepared}
-use Rattle.kapi_manifests.specs.declared.sorted.Scope.TheVariants.{All}
+use Rattle.kapi_manifests.specs.declared.sorted.Selection.TheVariants.{All}
 use Rattle.kapi_loading.specs.Reasons.{is_shown}
 use Rattle.kapi_replay.specs.Failures.{FailsOn}
 use Rattle.kapi_transcripts.specs.Files.{texts_named}

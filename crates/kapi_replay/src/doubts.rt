@@ -12,7 +12,9 @@ use kapi_model::ResourceRow;
 use kapi_request_info::Attributes;
 use kapi_rules::{Point, ResourcePoint};
 use kapi_text::{Memory, Sequence, Text};
-use kapi_transcripts::{Case, Doubt, LoadedFile, ScriptLine, Want, Wanted, attributes_of, line_at};
+use kapi_transcripts::{
+    Case, Doubt, Expectation, Expected, LoadedFile, ScriptLine, attributes_of, line_at,
+};
 use std::alloc::Global;
 
 /// Whether the resource type is that of the point and the version.
@@ -47,11 +49,11 @@ fn unserved<'a>(table: &[ResourceRow], attributes: &'a Attributes) -> Option<&'a
 }
 
 /// Whether a reply of code 403 is wanted.
-fn wants_refusal(wanted: &Wanted) -> bool
+fn wants_refusal(wanted: &Expected) -> bool
     ensures { result ≡ wants_refusal_of wanted.now }
 {
     match wanted {
-        Wanted::Reply(code, _text) => code.as_slice() == b"403".as_slice(),
+        Expected::Reply(code, _text) => code.as_slice() == b"403".as_slice(),
         _ => false,
     }
 }
@@ -83,7 +85,7 @@ fn check_want(
     table: &[ResourceRow],
     lines: &[Sequence<u8>],
     script: &[ScriptLine],
-    want: &Want,
+    want: &Expectation,
 ) -> Result<(), Memory>
     ensures { OnOk result (doubts.new.items ≡ doubts.old.items ++ asks.doubt table.now lines.now script.now want.now) }
 {

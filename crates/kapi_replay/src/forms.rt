@@ -27,7 +27,7 @@ pub fn form_reason(
         Form::Recheck => Ok("recheck comes before the first event of a case"),
         Form::Kinds(_name) => Ok("kinds comes before the first event of a case"),
         Form::Event => Ok(event_reason(line, reason)),
-        Form::Actor(_) | Form::Begin(_) | Form::Want(_) => Ok(FORMS),
+        Form::Actor(_) | Form::Begin(_) | Form::Expectation(_) => Ok(FORMS),
     }
 }
 

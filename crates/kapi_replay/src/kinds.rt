@@ -1,7 +1,7 @@
 //! The resource types that the machine of a case serves.
 ghost use Rattle.std.specs.Prelude.{◌≡◌, ◌==◌, true, IfOk, IfSome, is_some, length, option_map};
 ghost use Rattle.kapi_core.specs.Table.{fits};
-ghost use Rattle.kapi_kinds.specs.Tables.{faults_told, table_told};
+ghost use Rattle.kapi_kinds.specs.Tables.{model_of_faults, model_of_table};
 ghost use Rattle.kapi_replay.specs.Kinds as known;
 
 use crate::manifests::all_texts;
@@ -54,9 +54,9 @@ pub fn first_blank<'a>(
 
 /// The table that the files of kinds of a case make, or what is wrong with them.
 pub fn read_kinds(alloc: Global, loads: &[LoadedFile], case: &Case) -> Result<Kinds, Memory>
-    ensures table { IfOk result (λ k. table_told k ≡ known.table_of loads.now case.now) }
-    ensures fits { IfOk result (λ k. IfSome (table_told k) (λ t. fits t ≡ true)) }
-    ensures faults { IfOk result (λ k. is_some (table_told k) ≡ (length (faults_told k) == 0)) }
+    ensures table { IfOk result (λ k. model_of_table k ≡ known.table_of loads.now case.now) }
+    ensures fits { IfOk result (λ k. IfSome (model_of_table k) (λ t. fits t ≡ true)) }
+    ensures faults { IfOk result (λ k. is_some (model_of_table k) ≡ (length (model_of_faults k) == 0)) }
 {
     let texts = all_texts(alloc, loads, case.kinds.as_slice())?;
     table_of(alloc, texts.as_slice())

@@ -11,7 +11,7 @@ use kapi_lines::nth;
 use kapi_loading::{
     LineReason, StartError, Started, line_reasons, one_line, start_without_objects,
 };
-use kapi_manifests::{Fault, Options, Origin, Prepared, Scope, prepare};
+use kapi_manifests::{Fault, Options, Origin, Prepared, Selection, prepare};
 use kapi_model::ResourceRow;
 use kapi_text::{Memory, Sequence};
 use kapi_transcripts::{Case, Failure, Loaded, LoadedFile, Manifests, push_number, texts_named};
@@ -270,7 +270,7 @@ pub fn read_manifests(
 {
     let texts = all_texts(alloc, loads, manifests.files.as_slice())?;
     let options = Options {
-        scope: Scope::All,
+        scope: Selection::All,
         kinds: table.as_slice(),
         namespace: "",
         defaults: manifests.defaults,

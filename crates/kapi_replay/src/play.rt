@@ -18,7 +18,7 @@ use kapi_loading::{StartError, Started, object_reason, one_line, start};
 use kapi_model::ResourceRow;
 use kapi_script::{ScriptFault, play_script};
 use kapi_text::{Memory, Sequence, Text, TryCopy};
-use kapi_transcripts::{Case, Difference, Failure, Loaded, ScriptLine, Want, is_met};
+use kapi_transcripts::{Case, Difference, Expectation, Failure, Loaded, ScriptLine, is_met};
 use std::alloc::{AllocError, Global};
 use std::sync::Wait;
 
@@ -67,7 +67,7 @@ fn check_want(
     failures: &mut Vec<Failure>,
     script: &[ScriptLine],
     answers: &[Sequence<u8>],
-    want: &Want,
+    want: &Expectation,
 ) -> Result<(), Memory>
     ensures { OnOk result (failures.new.items ≡ failures.old.items ++ fails.unmet script.now answers.now want.now) }
 {

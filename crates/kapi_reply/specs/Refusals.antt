@@ -23,8 +23,8 @@ use Rattle.kapi_reply.specs.declared.refusal.Refusal.{Refusal}
 use Rattle.kapi_reply.specs.declared.refusal.Refusal.TheVariants as refusal
 use Rattle.kapi_reply.specs.declared.refusal.Refused.{Refused}
 use Rattle.kapi_reply.specs.declared.refusal.Revisions.{Revisions}
-use Rattle.kapi_reply.specs.declared.refusal.Sought.{Sought}
-use Rattle.kapi_reply.specs.declared.refusal.Sought.TheVariants as sought
+use Rattle.kapi_reply.specs.declared.refusal.Nonexistent.{Nonexistent}
+use Rattle.kapi_reply.specs.declared.refusal.Nonexistent.TheVariants as sought
 use Rattle.kapi_reply.specs.Status.{Failed, Subject, changed_role_ref, invalid_field, missing_atom, missing_permission}
 
 -- refused for the object or collection that the path names
@@ -41,7 +41,7 @@ refused_by (error.Refused r) = Some r
 refused_by error.Memory = None
 
 -- a refused request: its identity, its method and its attributes
-pub record Asked : Type 0 where
+pub record RefusedRequest : Type 0 where
   pub user : List ℕ
   pub method : Method
   pub attributes : Attributes
@@ -57,7 +57,7 @@ name_of (point.Resource p) = p.name
 name_of (point.Url u) = []
 
 -- the name of the object that a refusal is about
-abbrev pub name_in : Asked → Refused → List ℕ
+abbrev pub name_in : RefusedRequest → Refused → List ℕ
 name_in asked r = unwrap_or r.name (name_of asked.attributes.point)
 
 -- the subject of a failure about an object of that name; none if the request is about no resource
@@ -107,7 +107,7 @@ abbrev pub failed : StatusCode → List ℕ → List ℕ → Failed
 failed code reason message = record { code = code; reason = reason; message = message; causes = []; allow = [] }
 
 -- what is said of an object: its resource, its name and the words
-abbrev pub said_of : Asked → List ℕ → List ℕ → List ℕ
+abbrev pub said_of : RefusedRequest → List ℕ → List ℕ → List ℕ
 said_of asked name words = resource_of asked.attributes.point ++ codes " " ++ name ++ words
 
 -- the failure of a bad request
@@ -119,7 +119,7 @@ abbrev pub not_allowed : List ℕ → List Method → Failed
 not_allowed text allow = record (failed status.MethodNotAllowed (codes "MethodNotAllowed") (text ++ codes " is not served here")) { allow = allow }
 
 -- the failure if an object or a resource is not found
-unfoldable pub not_found : Asked → List ℕ → Sought → Failed
+unfoldable pub not_found : RefusedRequest → List ℕ → Nonexistent → Failed
 not_found asked name sought.Object = failed status.NotFound (codes "NotFound") (said_of asked name (codes " not found"))
 not_found asked name sought.Namespace =
     failed status.NotFound (codes "NotFound") (codes "namespaces " ++ asked.attributes.namespace ++ codes " not found")
@@ -129,7 +129,7 @@ abbrev pub role_not_found : NamedRole → Failed
 role_not_found role = failed status.NotFound (codes "NotFound") (role.resource ++ codes " " ++ role.name ++ codes " not found")
 
 -- the failure of a body with faults, each of them a cause
-abbrev pub invalid : Asked → List ℕ → List Data → Failed
+abbrev pub invalid : RefusedRequest → List ℕ → List Data → Failed
 invalid asked name causes =
     record (failed status.UnprocessableContent (codes "Invalid") (said_of asked name (codes " is invalid"))) { causes = causes }
 
@@ -145,7 +145,7 @@ expired r =
     failed status.Gone (codes "Expired") (codes "resourceVersion " ++ (decimal r.asked ++ (codes " is below the window, which begins at " ++ decimal r.begins)))
 
 -- the failure for a refusal about the object of that name
-unfoldable pub failure_of : Asked → List ℕ → Refusal → Failed
+unfoldable pub failure_of : RefusedRequest → List ℕ → Refusal → Failed
 failure_of asked name (refusal.BadRequest w) = bad_request (word_text w)
 failure_of asked name (refusal.Impersonation points) =
     record (failed status.Forbidden (codes "Forbidden") (asked.user ++ codes " may not impersonate")) {

@@ -13,7 +13,7 @@ use Rattle.kapi_reply.specs.declared.refusal.Refused.{Refused}
 use Rattle.kapi_reply.specs.declared.reply.Content.{Content}
 use Rattle.kapi_reply.specs.declared.reply.Content.TheVariants as content
 use Rattle.kapi_reply.specs.declared.reply.WrittenReply.{WrittenReply}
-use Rattle.kapi_reply.specs.Refusals.{Asked, bad_request, failure_of, fault_failure, name_in, subject_of, word_text}
+use Rattle.kapi_reply.specs.Refusals.{RefusedRequest, bad_request, failure_of, fault_failure, name_in, subject_of, word_text}
 use Rattle.kapi_reply.specs.Status.{Failed, Subject, status_of}
 
 -- a reply with a JSON body, or none
@@ -44,11 +44,11 @@ abbrev pub failure_reply : Option Subject → Bool → Failed → WrittenReply
 failure_reply subject close f = sent (json_reply f.code f.allow close (Some (compact_text (status_of subject f))))
 
 -- the Status object for a refused request
-abbrev pub refusal_status : Asked → Refused → Data
+abbrev pub refusal_status : RefusedRequest → Refused → Data
 refusal_status asked r = status_of (subject_of asked.attributes.point (name_in asked r)) (failure_of asked (name_in asked r) r.why)
 
 -- the reply to a refused request
-abbrev pub refusal_reply : Asked → Bool → Refused → WrittenReply
+abbrev pub refusal_reply : RefusedRequest → Bool → Refused → WrittenReply
 refusal_reply asked close r =
     failure_reply (subject_of asked.attributes.point (name_in asked r)) close (failure_of asked (name_in asked r) r.why)
 

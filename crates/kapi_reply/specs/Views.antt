@@ -1,12 +1,12 @@
 -- Failures and requests as data.
 use Rattle.std.specs.Prelude.{map, string_bytes}
 use Rattle.serde_json.specs.Data.{Data}
-use Rattle.kapi_reply.specs.declared.reply.Asked.{Asked as AskedOf}
+use Rattle.kapi_reply.specs.declared.reply.RefusedRequest.{RefusedRequest as AskedOf}
 use Rattle.kapi_reply.specs.declared.status.Cause.{Cause}
 use Rattle.kapi_reply.specs.declared.status.Cause.TheVariants as cause
 use Rattle.kapi_reply.specs.declared.status.Failure.{Failure}
 use Rattle.kapi_reply.specs.declared.status.Subject.{Subject as SubjectOf}
-use Rattle.kapi_reply.specs.Refusals.{Asked}
+use Rattle.kapi_reply.specs.Refusals.{RefusedRequest}
 use Rattle.kapi_reply.specs.Status.{Failed, Subject, field_cause, missing}
 
 -- the subject of a failure, as data
@@ -29,5 +29,5 @@ failure_data f = record {
 }
 
 -- a refused request as data
-abbrev pub asked_data : AskedOf → Asked
+abbrev pub asked_data : AskedOf → RefusedRequest
 asked_data a = record { user = a.user.now; method = a.method; attributes = a.attributes.now }

@@ -5,8 +5,8 @@ ghost use Rattle.kapi_reply.specs.Refusals as table;
 ghost use Rattle.kapi_reply.specs.Refusals.{denied_text, escalation_text, fault_failure};
 ghost use Rattle.kapi_reply.specs.Views.{asked_data, cause_data, failure_data, subject_data};
 
-use crate::refusal::{NamedRole, OldRevision, Refusal, Revisions, Sought};
-use crate::reply::Asked;
+use crate::refusal::{NamedRole, Nonexistent, OldRevision, Refusal, Revisions};
+use crate::reply::RefusedRequest;
 use crate::status::{
     Cause, Failure, Subject, changed_role_ref, invalid_fields, missing_atoms, missing_permission,
     missing_permissions,
@@ -30,7 +30,7 @@ const METHODS: [Method; 5] = [
 #[tactic(auto, unfolding(crate::specs::Refusals::failure_of))]
 pub fn failure_of(
     alloc: Global,
-    asked: Asked<'_>,
+    asked: RefusedRequest<'_>,
     name: &str,
     refusal: &Refusal,
 ) -> Result<Failure, Memory>
@@ -163,7 +163,11 @@ fn not_allowed(alloc: Global, method: &str, allow: &'static [Method]) -> Result<
 
 /// The failure of an impersonation, with each point that no rule allows as a cause.
 #[tactic(auto, unfolding(crate::specs::Refusals::failure_of))]
-fn impersonation(alloc: Global, asked: Asked<'_>, points: &[Point]) -> Result<Failure, Memory>
+fn impersonation(
+    alloc: Global,
+    asked: RefusedRequest<'_>,
+    points: &[Point],
+) -> Result<Failure, Memory>
     ensures { IfOk result (λ f. failure_data f ≡ table.failure_of (asked_data asked.entry) [] (Refusal.Impersonation points.now)) }
 {
     let user = asked.user;
@@ -178,7 +182,7 @@ fn impersonation(alloc: Global, asked: Asked<'_>, points: &[Point]) -> Result<Fa
 
 /// The failure of a denial, with the point that no rule allows as its cause.
 #[tactic(auto, unfolding(crate::specs::Refusals::failure_of))]
-fn denied(alloc: Global, asked: Asked<'_>) -> Result<Failure, Memory>
+fn denied(alloc: Global, asked: RefusedRequest<'_>) -> Result<Failure, Memory>
     ensures { IfOk result (λ f. failure_data f ≡ table.failure_of (asked_data asked.entry) [] Refusal.Forbidden) }
 {
     let mut causes = Vec::new(alloc);
@@ -205,7 +209,7 @@ fn denied_message(alloc: Global, user: &str, namespace: &str) -> Result<String, 
 
 /// The failure of a write that would grant what the caller does not hold, each part of it a cause.
 #[tactic(auto, unfolding(crate::specs::Refusals::failure_of))]
-fn escalation(alloc: Global, asked: Asked<'_>, atoms: &[Atom]) -> Result<Failure, Memory>
+fn escalation(alloc: Global, asked: RefusedRequest<'_>, atoms: &[Atom]) -> Result<Failure, Memory>
     ensures { IfOk result (λ f. failure_data f ≡ table.failure_of (asked_data asked.entry) [] (Refusal.Escalation atoms.now)) }
 {
     Ok(Failure {
@@ -244,12 +248,17 @@ fn joined(alloc: Global, first: &str, second: &str, third: &str) -> Result<Strin
 
 /// The failure if an object or a namespace is not found.
 #[tactic(auto, unfolding(crate::specs::Refusals::not_found))]
-fn not_found(alloc: Global, asked: Asked<'_>, name: &str, what: Sought) -> Result<Failure, Memory>
+fn not_found(
+    alloc: Global,
+    asked: RefusedRequest<'_>,
+    name: &str,
+    what: Nonexistent,
+) -> Result<Failure, Memory>
     ensures { IfOk result (λ f. failure_data f ≡ table.not_found (asked_data asked.entry) name.now what) }
 {
     let message = match what {
-        Sought::Object => said_of(alloc, asked, name, " not found")?,
-        Sought::Namespace => format!(in alloc;
+        Nonexistent::Object => said_of(alloc, asked, name, " not found")?,
+        Nonexistent::Namespace => format!(in alloc;
             "namespaces {} not found",
             asked.attributes.namespace.as_str()
         )?,
@@ -267,7 +276,7 @@ fn role_not_found(alloc: Global, role: &NamedRole) -> Result<Failure, Memory>
 }
 
 #[tactic(auto, unfolding(crate::specs::Refusals::failure_of))]
-fn already_exists(alloc: Global, asked: Asked<'_>, name: &str) -> Result<Failure, Memory>
+fn already_exists(alloc: Global, asked: RefusedRequest<'_>, name: &str) -> Result<Failure, Memory>
     ensures { IfOk result (λ f. failure_data f ≡ table.failure_of (asked_data asked.entry) name.now Refusal.AlreadyExists) }
 {
     let message = said_of(alloc, asked, name, " already exists")?;
@@ -278,7 +287,7 @@ fn already_exists(alloc: Global, asked: Asked<'_>, name: &str) -> Result<Failure
 #[tactic(auto, unfolding(crate::specs::Refusals::failure_of))]
 fn other_version(
     alloc: Global,
-    asked: Asked<'_>,
+    asked: RefusedRequest<'_>,
     name: &str,
     version: &str,
 ) -> Result<Failure, Memory>
@@ -290,7 +299,7 @@ fn other_version(
 }
 
 #[tactic(auto, unfolding(crate::specs::Refusals::failure_of))]
-fn still_full(alloc: Global, asked: Asked<'_>, name: &str) -> Result<Failure, Memory>
+fn still_full(alloc: Global, asked: RefusedRequest<'_>, name: &str) -> Result<Failure, Memory>
     ensures { IfOk result (λ f. failure_data f ≡ table.failure_of (asked_data asked.entry) name.now Refusal.NamespaceNotEmpty) }
 {
     let message = said_of(alloc, asked, name, " still holds objects")?;
@@ -301,7 +310,7 @@ fn still_full(alloc: Global, asked: Asked<'_>, name: &str) -> Result<Failure, Me
 #[tactic(auto, unfolding(crate::specs::Refusals::failure_of))]
 fn faulty(
     alloc: Global,
-    asked: Asked<'_>,
+    asked: RefusedRequest<'_>,
     name: &str,
     faults: &[FieldFault],
 ) -> Result<Failure, Memory>
@@ -312,7 +321,7 @@ fn faulty(
 
 /// The failure if a binding is to refer to another role.
 #[tactic(auto, unfolding(crate::specs::Refusals::failure_of))]
-fn role_ref_changed(alloc: Global, asked: Asked<'_>, name: &str) -> Result<Failure, Memory>
+fn role_ref_changed(alloc: Global, asked: RefusedRequest<'_>, name: &str) -> Result<Failure, Memory>
     ensures { IfOk result (λ f. failure_data f ≡ table.failure_of (asked_data asked.entry) name.now Refusal.RoleRefChanged) }
 {
     let mut causes = Vec::new(alloc);
@@ -323,7 +332,7 @@ fn role_ref_changed(alloc: Global, asked: Asked<'_>, name: &str) -> Result<Failu
 /// The failure of a body with faults, each of them a cause.
 fn invalid(
     alloc: Global,
-    asked: Asked<'_>,
+    asked: RefusedRequest<'_>,
     name: &str,
     causes: Vec<Cause>,
 ) -> Result<Failure, Memory>
@@ -339,7 +348,12 @@ fn invalid(
 }
 
 /// What is said of an object: its resource, its name and the words.
-fn said_of(alloc: Global, asked: Asked<'_>, name: &str, words: &str) -> Result<String, Memory>
+fn said_of(
+    alloc: Global,
+    asked: RefusedRequest<'_>,
+    name: &str,
+    words: &str,
+) -> Result<String, Memory>
     ensures { IfOk result (λ s. string_bytes s ≡ table.said_of (asked_data asked.entry) name.now words.now) }
 {
     let mut text = joined(alloc, resource_of(&asked.attributes.point), " ", name)?;

@@ -9,11 +9,11 @@ mod tokens;
 mod written;
 
 pub use refusal::{
-    BadRequestReason, CheckError, NamedRole, OldRevision, Place, Refusal, Refused, Revisions,
-    Sought,
+    BadRequestReason, CheckError, NamedRole, Nonexistent, OldRevision, Place, Refusal, Refused,
+    Revisions,
 };
 pub use reply::{
-    Asked, Content, WrittenReply, content_reply, deletion_text, expired_text, fault_reply,
+    Content, RefusedRequest, WrittenReply, content_reply, deletion_text, expired_text, fault_reply,
     refusal_reply, refusal_text, target_reply, watch_reply,
 };
 pub use status::{Subject, atom_list};

@@ -43,7 +43,7 @@ pub enum BadRequestReason {
 
 /// What was not found (404).
 #[derive(Clone, Copy, PartialEq, Eq)]
-pub enum Sought {
+pub enum Nonexistent {
     /// The object that the request is about.
     Object,
     /// The namespace of the path.
@@ -62,7 +62,7 @@ pub enum Refusal {
     Escalation(Sequence<Atom>),
     /// The path is not one of a served resource.
     NoSuchResource,
-    NotFound(Sought),
+    NotFound(Nonexistent),
     /// The role that the binding refers to does not exist.
     RoleNotFound(NamedRole),
     /// The place has other methods.

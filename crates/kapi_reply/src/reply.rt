@@ -39,7 +39,7 @@ pub enum Content {
 
 /// A refused request: its identity, its method and its attributes.
 #[derive(Clone, Copy)]
-pub struct Asked<'a> {
+pub struct RefusedRequest<'a> {
     pub user: &'a str,
     pub method: Method,
     pub attributes: &'a Attributes,
@@ -127,7 +127,7 @@ fn send(
 /// The reply to a refused request.
 pub fn refusal_reply(
     alloc: Global,
-    asked: Asked<'_>,
+    asked: RefusedRequest<'_>,
     close: bool,
     refused: &Refused,
 ) -> Result<WrittenReply, Memory>
@@ -144,7 +144,11 @@ pub fn refusal_reply(
 }
 
 /// The Status object for a refused request, as JSON text.
-pub fn refusal_text(alloc: Global, asked: Asked<'_>, refused: &Refused) -> Result<Vec<u8>, Memory>
+pub fn refusal_text(
+    alloc: Global,
+    asked: RefusedRequest<'_>,
+    refused: &Refused,
+) -> Result<Vec<u8>, Memory>
     ensures { IfOk result (λ b. b.items ≡ compact_text (replies.refusal_status (asked_data asked.entry) refused.now)) }
 {
     let name = name_in(asked, refused);
@@ -153,7 +157,7 @@ pub fn refusal_text(alloc: Global, asked: Asked<'_>, refused: &Refused) -> Resul
 }
 
 /// The name of the object that a refusal is about.
-fn name_in<'a>(asked: Asked<'a>, refused: &'a Refused) -> &'a str
+fn name_in<'a>(asked: RefusedRequest<'a>, refused: &'a Refused) -> &'a str
     ensures { result.now ≡ table.name_in (asked_data asked.entry) refused.entry.now }
 {
     match &refused.name {

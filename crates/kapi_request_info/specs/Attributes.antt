@@ -3,7 +3,7 @@
 use Rattle.std.specs.Prelude.{ℕ, List, Result}
 use Rattle.kapi_http.specs.declared.message.Method.{Method}
 use Rattle.kapi_request_info.specs.declared.attributes.Attributes.{Attributes}
-use Rattle.kapi_text.specs.Gives.{◌>>=◌}
+use Rattle.kapi_text.specs.ResultIs.{◌>>=◌}
 use Rattle.kapi_request_info.specs.Faults.{TargetFault}
 use Rattle.kapi_request_info.specs.Target.{split_target}
 use Rattle.kapi_request_info.specs.Path.{segments}

@@ -3,7 +3,7 @@ use Rattle.std.specs.Prelude.{ℕ, ◌==◌, nat_le, Bool, not, ◌&&◌, ◌||�
 use Rattle.std.specs.List.{list_all, list_any}
 use Rattle.std.specs.Str.{is_utf8, str_eq_ignore_ascii_case}
 use Rattle.kapi_http.specs.declared.message.Header.{Header}
-use Rattle.kapi_text.specs.Gives.{◌>>=◌}
+use Rattle.kapi_text.specs.ResultIs.{◌>>=◌}
 use Rattle.kapi_request_info.specs.Fields.{is_named, values_named}
 use Rattle.kapi_request_info.specs.declared.impersonated.Impersonation.{Impersonation}
 use Rattle.kapi_request_info.specs.declared.impersonated.ImpersonationError.{ImpersonationError}

@@ -1,7 +1,7 @@
 //! The impersonation that the header fields of a request name (Kubernetes, 'Authenticating', 'User impersonation').
 ghost use Rattle.std.specs.Prelude.{◌≡◌};
 ghost use Rattle.std.specs.List.{list_any};
-ghost use Rattle.kapi_text.specs.Gives.{Gives};
+ghost use Rattle.kapi_text.specs.ResultIs.{ResultIs};
 ghost use Rattle.kapi_request_info.specs.Fields.{is_named as is_named_by};
 ghost use Rattle.kapi_request_info.specs.Impersonation as fields;
 ghost use Rattle.kapi_request_info.specs.Impersonation.{misuse_of};
@@ -25,7 +25,7 @@ pub fn impersonation(
     alloc: Global,
     headers: &[Header],
 ) -> Result<Option<Impersonation>, ImpersonationError>
-    ensures { Gives misuse_of (λ o. o) result (fields.impersonation headers.now) }
+    ensures { ResultIs misuse_of (λ o. o) result (fields.impersonation headers.now) }
 {
     if some_is_other(headers) {
         return Err(ImpersonationError::BadHeaders);
@@ -36,7 +36,7 @@ pub fn impersonation(
 /// The user and the groups that the fields name.
 #[tactic(auto, unfolding(crate::specs::Impersonation::named))]
 fn named(alloc: Global, headers: &[Header]) -> Result<Option<Impersonation>, ImpersonationError>
-    ensures { Gives misuse_of (λ o. o) result (fields.named headers.now) }
+    ensures { ResultIs misuse_of (λ o. o) result (fields.named headers.now) }
 {
     let users = names_in(alloc, b"impersonate-user", headers)?;
     let groups = names_in(alloc, b"impersonate-group", headers)?;
@@ -76,7 +76,7 @@ fn names_someone(header: &Header) -> bool
 /// The values of the fields of a name, each of which is a user's or a group's name.
 #[tactic(auto, unfolding(crate::specs::Impersonation::names_in))]
 fn names_in(alloc: Global, name: &[u8], headers: &[Header]) -> Result<Vec<Text>, ImpersonationError>
-    ensures { Gives misuse_of (λ v. v.items) result (fields.names_in name.now headers.now) }
+    ensures { ResultIs misuse_of (λ v. v.items) result (fields.names_in name.now headers.now) }
 {
     let mut names = Vec::new(alloc);
     for header in headers {
@@ -89,7 +89,7 @@ fn names_in(alloc: Global, name: &[u8], headers: &[Header]) -> Result<Vec<Text>,
 
 /// A value that is the name of a user or a group.
 fn name_in(alloc: Global, value: &[u8]) -> Result<Text, ImpersonationError>
-    ensures { Gives misuse_of (λ t. t) result (fields.name_in value.now) }
+    ensures { ResultIs misuse_of (λ t. t) result (fields.name_in value.now) }
 {
     if value.is_empty() {
         return Err(ImpersonationError::BadHeaders);
@@ -107,7 +107,7 @@ fn meant(
     users: &[Text],
     groups: Vec<Text>,
 ) -> Result<Option<Impersonation>, ImpersonationError>
-    ensures { Gives misuse_of (λ o. o) result (fields.meant users.now groups.items) }
+    ensures { ResultIs misuse_of (λ o. o) result (fields.meant users.now groups.items) }
 {
     match users {
         [] => nobody(groups.as_slice()),
@@ -121,7 +121,7 @@ fn meant(
 
 /// No impersonation, if no groups are named; groups without a user are an error.
 fn nobody(groups: &[Text]) -> Result<Option<Impersonation>, ImpersonationError>
-    ensures { Gives misuse_of (λ o. o) result (fields.nobody groups.now) }
+    ensures { ResultIs misuse_of (λ o. o) result (fields.nobody groups.now) }
 {
     if groups.is_empty() {
         Ok(None)

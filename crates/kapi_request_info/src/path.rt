@@ -4,7 +4,7 @@ ghost use Rattle.std.specs.List.{slice_split, list_all, position_from};
 ghost use Rattle.std.specs.Option.{option_copied};
 ghost use Rattle.std.specs.Str.{IsAscii, bytes_eq};
 ghost use Rattle.percent_encoding.specs.Percent.{percent_decode as decoded_of};
-ghost use Rattle.kapi_text.specs.Gives.{Gives};
+ghost use Rattle.kapi_text.specs.ResultIs.{ResultIs};
 ghost use Rattle.kapi_request_info.specs.Faults.{bad_path, bad_escape, fault_of};
 ghost use Rattle.kapi_request_info.specs.Path.{has_slash as has_slash_of, names_something as names_something_of, without_last_empty as without_last_empty_of};
 ghost use Rattle.kapi_request_info.specs.Path.{begins_with_digits as begins_with_digits_of, has_whole_escapes as has_whole_escapes_of, pieces as pieces_of, text_in as text_in_of, texts as texts_of, segments as segments_of};
@@ -72,7 +72,7 @@ impl<'a> Piece<'a> {
 #[tactic(auto, using(crate::proofs::Plain::plain_from_looks))]
 pub(crate) fn ascii_segments(alloc: Global, path: &[u8]) -> Result<Vec<Segment<'_>>, InfoError>
     requires { IsAscii path.now }
-    ensures { Gives fault_of (λ v. v.items) result (segments_of path.now) }
+    ensures { ResultIs fault_of (λ v. v.items) result (segments_of path.now) }
 {
     if path.contains(&b'%') {
         segments(alloc, path)
@@ -86,7 +86,7 @@ pub(crate) fn ascii_segments(alloc: Global, path: &[u8]) -> Result<Vec<Segment<'
 #[tactic(auto, using(crate::proofs::Plain::plain_start, crate::proofs::Plain::plain_fault, crate::proofs::Plain::plain_end, crate::proofs::Plain::plain_last, crate::proofs::Plain::plain_sides))]
 fn plain_segments(alloc: Global, path: &[u8]) -> Result<Vec<Segment<'_>>, InfoError>
     requires { list_all (λ b. nat_le b 127 && not (b == 37)) path.now ≡ true }
-    ensures { Gives fault_of (λ v. v.items) result (segments_of path.now) }
+    ensures { ResultIs fault_of (λ v. v.items) result (segments_of path.now) }
 {
     let mut segments = Vec::with_capacity(alloc, USUAL_PIECES)?;
     let mut rest = behind_first(path);
@@ -105,7 +105,7 @@ fn plain_segments(alloc: Global, path: &[u8]) -> Result<Vec<Segment<'_>>, InfoEr
 fn plain_segment(part: &[u8]) -> Result<Segment<'_>, InfoError>
     requires plain { list_all (λ b. nat_le b 127 && not (b == 37)) part.now ≡ true }
     requires slashless { has_slash_of part.now ≡ false }
-    ensures { Gives fault_of (λ s. s) result (if names_something_of part.now then Ok part.now else Err bad_path) }
+    ensures { ResultIs fault_of (λ s. s) result (if names_something_of part.now then Ok part.now else Err bad_path) }
 {
     if is_empty_or_dots(part) {
         return Err(InfoError::BadPath);
@@ -117,7 +117,7 @@ fn plain_segment(part: &[u8]) -> Result<Segment<'_>, InfoError>
 /// The decoded segments of a path, a last empty one left out.
 #[tactic(auto, unfolding(crate::specs::Path::segments))]
 pub fn segments(alloc: Global, path: &[u8]) -> Result<Vec<Segment<'_>>, InfoError>
-    ensures { Gives fault_of (λ v. v.items) result (segments_of path.now) }
+    ensures { ResultIs fault_of (λ v. v.items) result (segments_of path.now) }
 {
     let pieces = pieces(alloc, path)?;
     let segments = without_last_empty(pieces.as_slice());
@@ -256,7 +256,7 @@ fn begins_with_digits(bytes: &[u8]) -> bool
 /// The segments as texts.
 #[tactic(auto, unfolding(crate::specs::Path::texts))]
 fn texts<'a>(alloc: Global, segments: &[Piece<'a>]) -> Result<Vec<Segment<'a>>, InfoError>
-    ensures { Gives fault_of (λ v. v.items) result (texts_of segments.now) }
+    ensures { ResultIs fault_of (λ v. v.items) result (texts_of segments.now) }
 {
     let mut texts = Vec::with_capacity(alloc, segments.len())?;
     for segment in segments {
@@ -267,7 +267,7 @@ fn texts<'a>(alloc: Global, segments: &[Piece<'a>]) -> Result<Vec<Segment<'a>>, 
 
 /// The segment as a text.
 fn text_of<'a>(alloc: Global, piece: &Piece<'a>) -> Result<Segment<'a>, InfoError>
-    ensures { Gives fault_of (λ s. s) result (ok_or (text_in_of piece.now) bad_escape) }
+    ensures { ResultIs fault_of (λ s. s) result (ok_or (text_in_of piece.now) bad_escape) }
 {
     let text = match &piece.bytes {
         CowSlice::Borrowed(bytes) => CowStr::Borrowed(text_or_fault(bytes)?),
@@ -280,7 +280,7 @@ fn text_of<'a>(alloc: Global, piece: &Piece<'a>) -> Result<Segment<'a>, InfoErro
 
 /// The bytes as a text, which must be UTF-8.
 fn text_or_fault(bytes: &[u8]) -> Result<&str, InfoError>
-    ensures { Gives fault_of (λ s. s.now) result (ok_or (text_in_of bytes.now) bad_escape) }
+    ensures { ResultIs fault_of (λ s. s.now) result (ok_or (text_in_of bytes.now) bad_escape) }
 {
     match text_in(bytes) {
         Some(text) => Ok(text),

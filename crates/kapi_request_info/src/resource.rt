@@ -1,6 +1,6 @@
 //! What the segments of a path are about (Kubernetes, 'Authorization Overview', request attributes and verbs).
 ghost use Rattle.std.specs.Prelude.{◌≡◌, IfOk, string_bytes, flat_map, ◌∷◌};
-ghost use Rattle.kapi_text.specs.Gives.{Gives};
+ghost use Rattle.kapi_text.specs.ResultIs.{ResultIs};
 ghost use Rattle.kapi_request_info.specs.Faults.{fault_of};
 ghost use Rattle.kapi_request_info.specs.Given.{GivesInfo};
 ghost use Rattle.kapi_request_info.specs.Resource.{part as part_of, is_namespace_subresource as is_namespace_subresource_of, namespace_and_parts as namespace_and_parts_of};
@@ -119,7 +119,7 @@ fn verb_and_name<'a>(
     name: &'a str,
     query: &'a [QueryPair],
 ) -> Result<(&'static str, &'a str), InfoError>
-    ensures { Gives fault_of (λ p. (p.0.now, p.1.now)) result (verb_and_name_of method name.now query.now) }
+    ensures { ResultIs fault_of (λ p. (p.0.now, p.1.now)) result (verb_and_name_of method name.now query.now) }
 {
     match method {
         Method::Get => {
@@ -145,7 +145,7 @@ fn verb_and_name<'a>(
 /// The verb and the name of a read of a collection, narrowed to the name that a field selector specifies.
 #[tactic(auto, unfolding(crate::specs::Resource::collection_read))]
 fn collection_read(query: &[QueryPair]) -> Result<(&'static str, &str), InfoError>
-    ensures { Gives fault_of (λ p. (p.0.now, p.1.now)) result (collection_read_of query.now) }
+    ensures { ResultIs fault_of (λ p. (p.0.now, p.1.now)) result (collection_read_of query.now) }
 {
     if is_watched(query)? {
         Ok(("watch", selector_name(query)))
@@ -155,7 +155,7 @@ fn collection_read(query: &[QueryPair]) -> Result<(&'static str, &str), InfoErro
 }
 
 fn is_watched(query: &[QueryPair]) -> Result<bool, InfoError>
-    ensures { Gives fault_of (λ b. b) result (watched_of query.now) }
+    ensures { ResultIs fault_of (λ b. b) result (watched_of query.now) }
 {
     match query_value(query, "watch") {
         Some(value) => is_watched_by(value),
@@ -166,7 +166,7 @@ fn is_watched(query: &[QueryPair]) -> Result<bool, InfoError>
 /// Whether a Boolean of a query is true.
 #[tactic(auto, unfolding(crate::specs::Resource::watched_by))]
 fn is_watched_by(value: &str) -> Result<bool, InfoError>
-    ensures { Gives fault_of (λ b. b) result (watched_by_of value.now) }
+    ensures { ResultIs fault_of (λ b. b) result (watched_by_of value.now) }
 {
     if value == "true" || value == "1" {
         Ok(true)

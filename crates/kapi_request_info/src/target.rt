@@ -2,7 +2,7 @@
 ghost use Rattle.std.specs.Prelude.{◌≡◌, ◌==◌, ◌||◌};
 ghost use Rattle.std.specs.List.{list_all, before_first, after_first};
 ghost use Rattle.std.specs.Option.{option_copied};
-ghost use Rattle.kapi_text.specs.Gives.{Gives};
+ghost use Rattle.kapi_text.specs.ResultIs.{ResultIs};
 ghost use Rattle.kapi_request_info.specs.Faults.{fault_of};
 ghost use Rattle.kapi_request_info.specs.Target.{is_target_byte as is_target_byte_of, path_on as path_on_of, behind_authority as behind_authority_of, path_or_root as path_or_root_of, split_target as split_target_of};
 
@@ -11,7 +11,7 @@ use crate::attributes::InfoError;
 /// The path of a target and its query, which is empty if there is none.
 #[tactic(auto, unfolding(crate::specs::Target::split_target))]
 pub fn split_target(target: &[u8]) -> Result<(&[u8], &[u8]), InfoError>
-    ensures { Gives fault_of (λ p. (p.0.now, p.1.now)) result (split_target_of target.now) }
+    ensures { ResultIs fault_of (λ p. (p.0.now, p.1.now)) result (split_target_of target.now) }
 {
     if !has_target_bytes(target) {
         return Err(InfoError::BadPath);

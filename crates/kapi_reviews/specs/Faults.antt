@@ -9,7 +9,7 @@ use Rattle.kapi_object.specs.Tree.{member_of, metadata_member}
 use Rattle.kapi_object.specs.Contents.{text_if}
 use Rattle.kapi_object.specs.declared.text_rule.TextRule.{TextRule}
 use Rattle.kapi_object.specs.declared.text_rule.TextRule.TheVariants as rule
-use Rattle.kapi_object.specs.declared.typed_list.Need.TheVariants as need
+use Rattle.kapi_object.specs.declared.typed_list.Presence.TheVariants as need
 use Rattle.kapi_object.specs.Admission.{faults_on}
 use Rattle.kapi_object.specs.Typed.{is_given, list_faults_at, object_faults, text_faults_at, text_item_faults}
 use Rattle.kapi_reviews.specs.declared.kind.ReviewKind.{ReviewKind}

@@ -9,7 +9,7 @@ use crate::kind::ReviewKind;
 use kapi_model::{FaultKind, FieldFault, Schema};
 use kapi_object::text_rule::{TextRule, push_text_faults_at};
 use kapi_object::tree::member_of_metadata;
-use kapi_object::typed_list::{Need, is_given, push_list_faults_at};
+use kapi_object::typed_list::{Presence, is_given, push_list_faults_at};
 use kapi_object::{collect_faults, member, push_fault};
 use kapi_text::Memory;
 use serde_json::Value;
@@ -100,7 +100,7 @@ impl Review<'_> {
     {
         let user = any_or(is_given(spec, "groups"), TextRule::NotEmpty);
         push_text_faults_at(self.alloc, faults, user, "spec", "user", spec)?;
-        let (rule, need) = (TextRule::Any, Need::Optional);
+        let (rule, need) = (TextRule::Any, Presence::Optional);
         push_list_faults_at(self.alloc, faults, &rule, need, "spec", "groups", spec)
     }
 

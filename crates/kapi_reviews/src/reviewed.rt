@@ -1,7 +1,7 @@
 //! Reviews and their answers.
 ghost use Rattle.std.specs.Prelude.{◌≡◌, ℕ, List, IfOk};
 ghost use Rattle.serde_json.specs.View.{view};
-ghost use Rattle.kapi_text.specs.Gives.{Gives};
+ghost use Rattle.kapi_text.specs.ResultIs.{ResultIs};
 ghost use Rattle.kapi_object.specs.Object.{tree_of};
 ghost use Rattle.kapi_policy.specs.Decided.{decided};
 ghost use Rattle.kapi_policy.specs.Objects.{PolicyObjects};
@@ -70,7 +70,7 @@ fn answer<P: Policy>(
 
 /// Checks a review. An error has the whole list of its faults in order.
 fn check(alloc: Global, kind: ReviewKind, tree: &Value) -> Result<(), ReviewError>
-    ensures { Gives told (λ u. u) result (unless_faulty kind (view tree.now) tt) }
+    ensures { ResultIs told (λ u. u) result (unless_faulty kind (view tree.now) tt) }
 {
     let faults = collect_review_faults(alloc, kind, tree)?;
     if faults.is_empty() {
@@ -87,7 +87,7 @@ pub fn read_review(
     kind: ReviewKind,
     tree: &Value,
 ) -> Result<Question, ReviewError>
-    ensures question { Gives told (λ q. q) result (unless_faulty kind (view tree.now) (answers.asked kind caller.now (view tree.now))) }
+    ensures question { ResultIs told (λ q. q) result (unless_faulty kind (view tree.now) (answers.asked kind caller.now (view tree.now))) }
 
     // the resource that is asked about never has a slash
     ensures plain { IfOk result (λ q. HasPlainResource q.point) }
@@ -109,7 +109,7 @@ pub fn review<P: Policy>(
     kind: ReviewKind,
     tree: &Value,
 ) -> Result<Object, ReviewError>
-    ensures { Gives told tree_of result (reviewed (P.content policy.now) caller.now kind (view tree.now)) }
+    ensures { ResultIs told tree_of result (reviewed (P.content policy.now) caller.now kind (view tree.now)) }
 {
     check(alloc, kind, tree)?;
     let nothing = Value::Null;

@@ -10,7 +10,7 @@ use Rattle.kapi_core.proofs.Effects.{number_of}
 use Rattle.kapi_core.proofs.Numbered.{event_touches, found_gone, found_new, found_own, set_touches, there, turn_links}
 use Rattle.kapi_watch.specs.Shown.{Shown}
 use Rattle.kapi_watch.specs.Watches.{after_pump, due, is_expired, moved}
-use Rattle.kapi_watch.specs.declared.scope.Scope.{Scope}
+use Rattle.kapi_watch.specs.declared.scope.WatchScope.{WatchScope}
 use Rattle.kapi_core.specs.Fingerprints.{fingerprint_of, fingerprint_of_watch, fingerprint_on}
 use Rattle.kapi_core.specs.Limits.{kept_limit}
 use Rattle.kapi_core.specs.Machine.{Link, Machine, after_event, after_serve, changed, ended_if, feed_step, is_last, link_at, new_link, open_step, output_of, policy_of, pump_shown, pump_step, pump_watch, rest_after, serve_beside, serve_item, serve_step, shown_next, step, unserved, watched_on, with_link, with_new_link}
@@ -139,7 +139,7 @@ pumped_fingerprint m conn h = by_link (link_at conn.0 m) refl h
         → fingerprint_on (Some l) ≡ fingerprint_on (link_at id (pump_shown id l w o m).1)
     by_shown l w None is runs h =
         ap (option_map fingerprint_of_watch) runs
-        ∙ ap (λ (s : Scope). Some (fingerprint_of s.row.group s.row.plural s.namespace)) (sym (same_scope w))
+        ∙ ap (λ (s : WatchScope). Some (fingerprint_of s.row.group s.row.plural s.namespace)) (sym (same_scope w))
         ∙ sym (ap fingerprint_on (found_own id (watched_on l w m) m (there id m l is)))
     by_shown l w (Some r) is runs h = absurd (cc)
 

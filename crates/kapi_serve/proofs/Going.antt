@@ -19,7 +19,7 @@ use Rattle.kapi_http.specs.declared.inbox.FeedError.{FeedError}
 use Rattle.kapi_http.specs.declared.inbox.FeedError.TheVariants as fed
 use Rattle.kapi_model.specs.declared.identity.Identity.{Identity}
 use Rattle.kapi_policy.specs.declared.change.PolicyChange.{PolicyChange}
-use Rattle.kapi_desk.specs.Boards.{Board}
+use Rattle.kapi_publishing.specs.Boards.{Board}
 use Rattle.kapi_serve.specs.Account.{Made}
 use Rattle.kapi_serve.specs.Acts.{Act, Exchange, Applies, Follows, IsFree, Leaves, ClientState, answers_of, ends, entries_in, entries_of, events_of, drops, made_in, made_of, opens, serves, rejects, turns}
 use Rattle.kapi_serve.specs.Advances.{Advances, ServerState, Runs, Serves, step_in, steps_in}
@@ -31,7 +31,7 @@ use Rattle.kapi_serve.specs.declared.client.Client.{Client}
 use Rattle.kapi_serve.specs.declared.clients.Clients.{Clients}
 use Rattle.kapi_serve.specs.declared.port.PortEvent.{PortEvent}
 use Rattle.kapi_serve.specs.declared.progress.Progress.{Progress}
-use Rattle.kapi_desk.specs.Steps.{step_of}
+use Rattle.kapi_publishing.specs.Steps.{step_of}
 use Rattle.kapi_serve.specs.Publishes.{Publishes, unpublished}
 use Rattle.kapi_serve.specs.declared.port.Entry.{Entry}
 use Rattle.kapi_serve.specs.declared.port.Entry.TheVariants as entry

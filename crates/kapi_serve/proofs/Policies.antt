@@ -8,18 +8,18 @@ use Rattle.kapi_core.specs.Running.{Running}
 use Rattle.kapi_core.specs.Telling.{changes_told}
 use Rattle.kapi_core.specs.declared.event.Answer.{Answer}
 use Rattle.kapi_core.specs.declared.event.Event.{Event}
-use Rattle.kapi_desk.proofs.Lists.{after_more}
-use Rattle.kapi_desk.specs.Boards.{Board}
+use Rattle.kapi_publishing.proofs.Lists.{after_more}
+use Rattle.kapi_publishing.specs.Boards.{Board}
 use Rattle.kapi_policy.specs.Steps.{after_changes}
-use Rattle.kapi_desk.specs.Steps.{after}
+use Rattle.kapi_publishing.specs.Steps.{after}
 use Rattle.kapi_loading.specs.Loading.{Publishes}
 use Rattle.kapi_policy.specs.Objects.{PolicyObjects}
 use Rattle.kapi_policy.specs.declared.change.PolicyChange.{PolicyChange}
-use Rattle.kapi_gains.specs.StoredStates.{AreInOrder}
-use Rattle.kapi_guard.proofs.Writes.{stands_in_order}
+use Rattle.kapi_escalation_laws.specs.StoredStates.{AreInOrder}
+use Rattle.kapi_escalation.proofs.Writes.{stands_in_order}
 use Rattle.kapi_serve.specs.Advances.{steps_in}
 use Rattle.kapi_serve.specs.Policies.{PublishesPolicies}
-use Rattle.kapi_desk.specs.Steps.{step_of}
+use Rattle.kapi_publishing.specs.Steps.{step_of}
 
 -- a policy after some steps is one that the machine had after some of the events
 IsHad : Machine → List Event → PolicyObjects → List (List PolicyChange) → Type 0

@@ -3,8 +3,8 @@ use Rattle.std.proofs.Common.{◌≡◌, ◌↔◌, ◌≤◌, ◌<◌, Bool, tr
 use Rattle.std.specs.Option.{option_to_list}
 use Rattle.std.proofs.lemmas.List.{append-nil}
 use Rattle.kapi_policy.specs.declared.change.PolicyChange.{PolicyChange}
-use Rattle.kapi_desk.specs.Boards.{Board}
-use Rattle.kapi_desk.specs.Steps.{step_of}
+use Rattle.kapi_publishing.specs.Boards.{Board}
+use Rattle.kapi_publishing.specs.Steps.{step_of}
 use Rattle.kapi_serve.specs.Publishes.{IsPrompt, Publishes, Takes, all_steps, unpublished}
 
 -- nothing waits if none is pending

@@ -8,12 +8,12 @@ use Rattle.kapi_core.specs.Running.{Running}
 use Rattle.kapi_core.specs.Refines.{Refines}
 use Rattle.kapi_core.specs.Telling.{changes_told}
 use Rattle.kapi_core.specs.declared.event.Answer.{Answer}
-use Rattle.kapi_desk.specs.Boards.{Board}
+use Rattle.kapi_publishing.specs.Boards.{Board}
 use Rattle.kapi_serve.specs.Account.{Account, Made}
 use Rattle.kapi_serve.specs.Acts.{Act, Follows, ClientState, answers_of, entries_in, events_of, made_in}
 use Rattle.kapi_serve.specs.Policies.{PublishesPolicies}
 use Rattle.kapi_serve.specs.Ports.{Adds, Report}
-use Rattle.kapi_desk.specs.Steps.{step_of}
+use Rattle.kapi_publishing.specs.Steps.{step_of}
 use Rattle.kapi_serve.specs.Publishes.{Publishes}
 use Rattle.kapi_serve.specs.Rechecked.{WereAllowed}
 use Rattle.kapi_serve.specs.declared.port.Entry.{Entry}

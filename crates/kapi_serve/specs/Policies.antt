@@ -3,9 +3,9 @@ use Rattle.std.specs.Prelude.{◌≡◌, ℕ, List, take}
 use Rattle.kapi_core.specs.Machine.{Machine, after as machine_after, policy_of}
 use Rattle.kapi_core.specs.Running.{Running}
 use Rattle.kapi_core.specs.declared.event.Event.{Event}
-use Rattle.kapi_desk.specs.Boards.{Board}
-use Rattle.kapi_desk.specs.Rule.{Begins}
-use Rattle.kapi_desk.specs.Steps.{after}
+use Rattle.kapi_publishing.specs.Boards.{Board}
+use Rattle.kapi_publishing.specs.Rule.{Begins}
+use Rattle.kapi_publishing.specs.Steps.{after}
 use Rattle.kapi_loading.specs.Loading.{Publishes}
 use Rattle.kapi_policy.specs.declared.change.PolicyChange.{PolicyChange}
 

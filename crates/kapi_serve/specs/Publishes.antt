@@ -2,7 +2,7 @@
 use Rattle.std.specs.Prelude.{◌≡◌, ◌≤◌, List, [], ◌∷◌, ◌++◌, length, Option, Some, None}
 use Rattle.std.specs.Option.{option_to_list}
 use Rattle.kapi_policy.specs.declared.change.PolicyChange.{PolicyChange}
-use Rattle.kapi_desk.specs.Boards.{Board}
+use Rattle.kapi_publishing.specs.Boards.{Board}
 
 -- the steps that are yet to be published
 abbrev pub unpublished : Board → Option (List PolicyChange) → List (List PolicyChange)

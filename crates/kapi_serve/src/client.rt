@@ -9,7 +9,7 @@ ghost use Rattle.kapi_core.specs.declared.event.Answer.TheVariants as answer;
 ghost use Rattle.kapi_core.specs.declared.event.Event.TheVariants as event;
 ghost use Rattle.kapi_serve.specs.Private.ClientsMatch.{is_called as is_called_of};
 ghost use Rattle.kapi_serve.specs.Private.ClientsMatch.{AreMarked, Finishes, IsQuiet, IsServed, Keeps, Tends, Waits};
-ghost use Rattle.kapi_desk.specs.Steps.{step_of};
+ghost use Rattle.kapi_publishing.specs.Steps.{step_of};
 ghost use Rattle.kapi_serve.specs.Ports.{Adds};
 ghost use Rattle.kapi_serve.specs.Publishes.{Publishes};
 ghost use Rattle.kapi_serve.specs.declared.client.Flushed.TheVariants as flush;
@@ -22,8 +22,8 @@ use crate::port::{PortFault, Ports};
 use crate::progress::Progress;
 use crate::publishing::Publishing;
 use kapi_core::{ConnId, Core, Output};
-use kapi_desk::Desk;
 use kapi_policy::Policy;
+use kapi_publishing::Desk;
 use std::sync::Wait;
 
 /// The state of a connection.

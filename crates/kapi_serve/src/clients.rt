@@ -20,9 +20,9 @@ use crate::port::{PortFault, Ports};
 use crate::progress::Progress;
 use crate::publishing::Publishing;
 use kapi_core::{ConnId, Core};
-use kapi_desk::Desk;
 use kapi_model::Identity;
 use kapi_policy::Policy;
+use kapi_publishing::Desk;
 use std::alloc::Global;
 use std::sync::Wait;
 

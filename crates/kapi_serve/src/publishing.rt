@@ -2,15 +2,15 @@ ghost use Rattle.std.specs.Prelude.{◌≡◌, List, Option, [], ◌∷◌, None
 ghost use Rattle.kapi_policy.specs.declared.change.PolicyChange.{PolicyChange as AChange};
 ghost use Rattle.kapi_serve.specs.Acts.{ClientState};
 ghost use Rattle.kapi_serve.specs.Advances.{Advances};
-ghost use Rattle.kapi_desk.specs.Steps.{step_of};
+ghost use Rattle.kapi_publishing.specs.Steps.{step_of};
 ghost use Rattle.kapi_serve.specs.Private.ServerStates.{stage};
 ghost use Rattle.kapi_serve.specs.Private.ClientsMatch.{PassesBy};
 ghost use Rattle.kapi_serve.specs.Publishes.{Publishes, Takes};
 
 use crate::progress::Progress;
 use kapi_core::Core;
-use kapi_desk::{Desk, PublishError};
 use kapi_policy::{Policy, PolicyStep};
+use kapi_publishing::{Desk, PublishError};
 use std::sync::Wait;
 
 /// The largest number of turns after a step that changed the policy.

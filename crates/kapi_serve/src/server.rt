@@ -12,8 +12,8 @@ use crate::port::{PortEvent, Ports};
 use crate::progress::Progress;
 use crate::publishing::Publishing;
 use kapi_core::Core;
-use kapi_desk::Desk;
 use kapi_policy::Policy;
+use kapi_publishing::Desk;
 use std::sync::Wait;
 
 /// The number of bytes that are read at a time.

@@ -2,10 +2,10 @@
 use Rattle.std.proofs.Common.{◌≡◌, Bool, true, false, List, Option, None, Some, Result, Ok, Err, IsSome, map, option_map, if◌then◌else◌, ok_or, ap, sym, refl, ◌∙◌}
 use Rattle.std.specs.Map.{lookup}
 use Rattle.serde_json.specs.Data.{Data}
-use Rattle.kapi_text.specs.Gives.{◌>>=◌}
+use Rattle.kapi_text.specs.ResultIs.{◌>>=◌}
 use Rattle.kapi_object.specs.Given.{given_of}
 use Rattle.kapi_store.specs.Stored.{stored_tree}
-use Rattle.kapi_object.specs.declared.given.GivenText.{GivenText}
+use Rattle.kapi_object.specs.declared.body_fields.GivenText.{GivenText}
 use Rattle.kapi_store.specs.declared.stored.StoredObject.{StoredObject}
 use Rattle.kapi_store.specs.Faults.{StoreFault, Exists, Missing, NoNamespace, Conflict}
 use Rattle.kapi_store.specs.Keys.{is_key}

@@ -5,11 +5,11 @@ use Rattle.std.specs.List.{filter, list_any, list_all}
 use Rattle.std.specs.Str.{bytes_eq}
 use Rattle.std.specs.Map.{lookup}
 use Rattle.serde_json.specs.Data.{Data}
-use Rattle.kapi_text.specs.Gives.{◌>>=◌}
+use Rattle.kapi_text.specs.ResultIs.{◌>>=◌}
 use Rattle.kapi_object.specs.Given.{given_of}
 use Rattle.kapi_store.specs.Stored.{stored_tree}
-use Rattle.kapi_object.specs.declared.given.GivenText.{GivenText}
-use Rattle.kapi_object.specs.declared.given.GivenText.TheVariants as given
+use Rattle.kapi_object.specs.declared.body_fields.GivenText.{GivenText}
+use Rattle.kapi_object.specs.declared.body_fields.GivenText.TheVariants as given
 use Rattle.kapi_store.specs.declared.stored.StoredObject.{StoredObject}
 use Rattle.kapi_model.specs.declared.row.ResourceRow.{ResourceRow}
 use Rattle.kapi_store.specs.declared.key.Key.{Key}

@@ -76,7 +76,7 @@ impl Store {
     ghost use Rattle.std.specs.List.{filter, list_all, list_any, IsDistinct};
     ghost use Rattle.std.specs.Map.{lookup, keys_of};
     ghost use Rattle.serde_json.specs.Data.{Data};
-    ghost use Rattle.kapi_text.specs.Gives.{Gives};
+    ghost use Rattle.kapi_text.specs.ResultIs.{ResultIs};
     ghost use Rattle.kapi_object.specs.Given.{given_of};
     ghost use Rattle.kapi_object.specs.Object.{tree_of};
     ghost use Rattle.kapi_store.specs.Keys.{is_key};
@@ -187,7 +187,7 @@ impl Store {
         ensures too_old { IsErr result ↔ (revision < max (self.now.revision - window_limit) self.now.first) }
         ensures changes { IfOk result (λ c. changes_of c ≡ filter (λ d. nat_lt revision d.revision) self.now.window) }
         ensures all { (history : List PlainChange) (p : Plain) → RefinesPlain self.now history p
-            → Gives (λ _. Some tt) (λ c. map plain_change (changes_of c)) result (changes_after_in history p revision) }
+            → ResultIs (λ _. Some tt) (λ c. map plain_change (changes_of c)) result (changes_after_in history p revision) }
     {
         if revision < self.first {
             return Err(TooOld);
@@ -221,7 +221,7 @@ impl Store {
     /// (`NoNamespace`) and where an object is at the key (`Exists`).
     #[tactic(auto, unfolding(crate::specs::Plain::free_place))]
     pub fn check_place(&self, key: &Key) -> Result<(), StoreError>
-        ensures { Gives fault_of (λ u. u) result (free_place (plain_of self.now) key.now) }
+        ensures { ResultIs fault_of (λ u. u) result (free_place (plain_of self.now) key.now) }
     {
         if !self.has_namespace(key)? {
             return Err(StoreError::NoNamespace);
@@ -235,7 +235,7 @@ impl Store {
     /// Checks that so many revisions are left (`RevisionsUsedUp`). Allocates nothing.
     #[tactic(auto, unfolding(crate::specs::Plain::revisions_left))]
     pub fn check_revisions(&self, count: u64) -> Result<(), StoreError>
-        ensures gives { Gives fault_of (λ u. u) result (revisions_left (plain_of self.now) count) }
+        ensures gives { ResultIs fault_of (λ u. u) result (revisions_left (plain_of self.now) count) }
         ensures left { OnOk result (self.now.revision + count ≤ last_revision) }
     {
         if count > LAST_REVISION - self.revision {
@@ -248,7 +248,7 @@ impl Store {
     /// is none (`Missing`) and where the version is no text, or a text that is neither empty nor the current version
     /// (`Conflict`).
     pub fn replaceable(&self, key: &Key, given: &GivenText) -> Result<&Shared, StoreError>
-        ensures gives { Gives fault_of (λ o. stored_tree o.now) result (replaceable_at (plain_of self.now) key.now given.now) }
+        ensures gives { ResultIs fault_of (λ o. stored_tree o.now) result (replaceable_at (plain_of self.now) key.now given.now) }
         ensures found { IfOk result (λ o. lookup (is_key key.now) (plain_of self.now).objects ≡ Some (stored_tree o.now)) }
     {
         match find(&self.slots, &self.hidden, key) {
@@ -264,7 +264,7 @@ impl Store {
     /// namespace is missing (`NoNamespace`), if an object is at the key (`Exists`), and where no revision
     /// is left (`RevisionsUsedUp`).
     pub fn create(&mut self, key: Key, object: Object) -> Result<Ready, StoreError>
-        ensures gives { Gives fault_of (map plain_change) result (creation (plain_of self.old) key (tree_of object)) }
+        ensures gives { ResultIs fault_of (map plain_change) result (creation (plain_of self.old) key (tree_of object)) }
         ensures same { Same self.old self.new }
         ensures fits { IfOk result (Fits self.new) }
     {
@@ -275,7 +275,7 @@ impl Store {
     /// Prepares the creation of an object at a place that `check_place` found free: it is not looked up again.
     pub fn create_in_place(&mut self, key: Key, object: Object) -> Result<Ready, StoreError>
         requires { free_place (plain_of self.old) key ≡ Ok tt }
-        ensures gives { Gives fault_of (map plain_change) result (creation_in_place (plain_of self.old) key (tree_of object)) }
+        ensures gives { ResultIs fault_of (map plain_change) result (creation_in_place (plain_of self.old) key (tree_of object)) }
         ensures same { Same self.old self.new }
         ensures fits { IfOk result (Fits self.new) }
     {
@@ -295,7 +295,7 @@ impl Store {
     /// Refused, in this order, if no object is at the key (`Missing`), if the object's own resourceVersion does
     /// not admit the write (`Conflict`), and where no revision is left for a change (`RevisionsUsedUp`).
     pub fn replace(&self, key: Key, object: Object) -> Result<Ready, StoreError>
-        ensures gives { Gives fault_of (map plain_change) result (replacement (plain_of self.now) key (tree_of object)) }
+        ensures gives { ResultIs fault_of (map plain_change) result (replacement (plain_of self.now) key (tree_of object)) }
         ensures unchanged { IfOk result (λ r. (old : Data) → lookup (is_key key) (plain_of self.now).objects ≡ Some old
             → (r ≡ []) ↔ (with_stamps old (tree_of object) ≡ old)) }
         ensures fits { IfOk result (Fits self.now) }
@@ -313,7 +313,7 @@ impl Store {
         old: &Shared,
     ) -> Result<Ready, StoreError>
         requires { lookup (is_key key) (plain_of self.now).objects ≡ Some (stored_tree old.now) }
-        ensures gives { Gives fault_of (map plain_change) result (replacement_in_place (plain_of self.now) key (tree_of object)) }
+        ensures gives { ResultIs fault_of (map plain_change) result (replacement_in_place (plain_of self.now) key (tree_of object)) }
         ensures unchanged { IfOk result (λ r. (r ≡ []) ↔ (with_stamps (stored_tree old.now) (tree_of object) ≡ stored_tree old.now)) }
         ensures fits { IfOk result (Fits self.now) }
     {
@@ -322,7 +322,7 @@ impl Store {
 
     /// The object at the key, which this one may replace.
     fn replaceable_by(&self, key: &Key, object: &Object) -> Result<&Shared, StoreError>
-        ensures gives { Gives fault_of (λ o. stored_tree o.now) result (replaceable_at (plain_of self.now) key.now (given_of (tree_of object.now)).resource_version) }
+        ensures gives { ResultIs fault_of (λ o. stored_tree o.now) result (replaceable_at (plain_of self.now) key.now (given_of (tree_of object.now)).resource_version) }
         ensures found { IfOk result (λ o. lookup (is_key key.now) (plain_of self.now).objects ≡ Some (stored_tree o.now)) }
     {
         let given = object.given(self.alloc)?;
@@ -332,7 +332,7 @@ impl Store {
     /// Prepares the replacement of a stored object.
     fn replace_old(&self, key: Key, object: Object, old: &Shared) -> Result<Ready, StoreError>
         requires { lookup (is_key key) (plain_of self.now).objects ≡ Some (stored_tree old.now) }
-        ensures gives { Gives fault_of (map plain_change) result (replaced (plain_of self.now) key (tree_of object) (stored_tree old.now)) }
+        ensures gives { ResultIs fault_of (map plain_change) result (replaced (plain_of self.now) key (tree_of object) (stored_tree old.now)) }
         ensures unchanged { IfOk result (λ r. (r ≡ []) ↔ (with_stamps (stored_tree old.now) (tree_of object) ≡ stored_tree old.now)) }
         ensures fits { IfOk result (Fits self.now) }
     {
@@ -393,7 +393,7 @@ impl Store {
     /// (`Missing`) and where one is a namespace that holds an object (`NamespaceNotEmpty`).
     #[tactic(auto, unfolding(crate::specs::Plain::removable))]
     fn check_removal(&self, keys: &[Key]) -> Result<(), StoreError>
-        ensures { Gives fault_of (λ u. u) result (removable (plain_of self.now) keys.now) }
+        ensures { ResultIs fault_of (λ u. u) result (removable (plain_of self.now) keys.now) }
     {
         if !self.has_all(keys) {
             return Err(StoreError::Missing);
@@ -412,7 +412,7 @@ impl Store {
     /// than there are keys (`RevisionsUsedUp`).
     pub fn remove(&self, keys: Vec<Key>) -> Result<Ready, StoreError>
         requires { IsDistinct is_key keys.items }
-        ensures gives { Gives fault_of (map plain_change) result (removal (plain_of self.now) keys.items) }
+        ensures gives { ResultIs fault_of (map plain_change) result (removal (plain_of self.now) keys.items) }
         ensures fits { IfOk result (Fits self.now) }
     {
         self.check_removal(keys.as_slice())?;

@@ -8,7 +8,7 @@ ghost use Rattle.std.specs.Fmt.{decimal};
 ghost use Rattle.kapi_object.specs.Object.{tree_of};
 ghost use Rattle.kapi_store.specs.UidAndVersion.{uid_of, created_tree, replaced_tree};
 ghost use Rattle.kapi_store.specs.Plain.{admits as admits_of, admitted as admitted_of};
-ghost use Rattle.kapi_text.specs.Gives.{Gives};
+ghost use Rattle.kapi_text.specs.ResultIs.{ResultIs};
 ghost use Rattle.kapi_store.specs.Faults.{fault_of};
 ghost use Rattle.kapi_store.specs.Same.{same_tree};
 ghost use Rattle.kapi_store.specs.UidAndVersion.{with_stamps_of as with_stamps_of_tree};
@@ -135,7 +135,7 @@ pub fn admitted<'a>(
     object: &'a Shared,
     given: &GivenText,
 ) -> Result<&'a Shared, StoreError>
-    ensures gives { Gives fault_of (λ o. stored_tree o.now) result (admitted_of (Some (stored_tree object.now)) given.now) }
+    ensures gives { ResultIs fault_of (λ o. stored_tree o.now) result (admitted_of (Some (stored_tree object.now)) given.now) }
     ensures same { IfOk result (λ o. o.now ≡ object.now) }
 {
     let current = Text::new(object.get().version(alloc)?);

@@ -21,7 +21,7 @@ use Rattle.kapi_policy.specs.Decided.{Binding, bindings_in, bindings_of, cluster
 use Rattle.kapi_policy.specs.Objects.{PolicyObjects}
 use Rattle.kapi_aggregation.proofs.Lists.{filter_mapped, filter_twice}
 use Rattle.kapi_aggregation.specs.Members.{Has}
-use Rattle.kapi_gains.specs.Access.{may}
+use Rattle.kapi_escalation_laws.specs.Access.{may}
 use Rattle.kapi_suggest.specs.Needs.{allows_by}
 use Rattle.kapi_suggest.specs.Policies.{binding_of, cluster_binding_of, cluster_role_of, is_local, is_wide, place_of, policy_of, role_of}
 use Rattle.kapi_suggest.specs.Printed.{name_of, role_ref_for}

@@ -29,7 +29,7 @@ use Rattle.kapi_rules.specs.declared.point.Point.{Point}
 use Rattle.kapi_policy.proofs.Sets.{delete_keeps, delete_sets, put_keeps}
 use Rattle.kapi_aggregation.proofs.Lists.{has_kept, some_at}
 use Rattle.kapi_aggregation.specs.Members.{Has}
-use Rattle.kapi_gains.proofs.Elements.{passing}
+use Rattle.kapi_escalation_laws.proofs.Elements.{passing}
 use Rattle.kapi_access.proofs.Joined.{together_allows}
 use Rattle.kapi_access.specs.Together.{together}
 use Rattle.kapi_reviews.specs.declared.question.Question.{Question}

@@ -10,7 +10,7 @@ use Rattle.kapi_rules.specs.declared.point.Point.{Point}
 use Rattle.kapi_policy.specs.Objects.{PolicyObjects}
 use Rattle.kapi_aggregation.proofs.Lists.{some_at}
 use Rattle.kapi_aggregation.specs.Members.{Has}
-use Rattle.kapi_gains.specs.Access.{may}
+use Rattle.kapi_escalation_laws.specs.Access.{may}
 use Rattle.kapi_reviews.specs.declared.question.Question.{Question}
 use Rattle.kapi_suggest.specs.Needs.{suggested}
 use Rattle.kapi_suggest.specs.Policies.{AreFew, suggestion}

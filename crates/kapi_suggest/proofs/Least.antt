@@ -26,8 +26,8 @@ use Rattle.kapi_policy.proofs.Decisions.{cluster_wide_first}
 use Rattle.kapi_policy.specs.Decided.{Binding, bindings_in, given, held, rules_of}
 use Rattle.kapi_policy.specs.Objects.{PolicyObjects}
 use Rattle.kapi_aggregation.specs.Members.{Has}
-use Rattle.kapi_gains.proofs.Elements.{has_left, has_part, part_of, passing}
-use Rattle.kapi_gains.specs.Access.{may}
+use Rattle.kapi_escalation_laws.proofs.Elements.{has_left, has_part, part_of, passing}
+use Rattle.kapi_escalation_laws.specs.Access.{may}
 use Rattle.kapi_access.proofs.Held.{masters_may, may_by, rule_of_may}
 use Rattle.kapi_reviews.specs.declared.question.Question.{Question}
 use Rattle.kapi_suggest.specs.Uses.{Allows, ArePlain, HasItsGroups, ListsNoEmptyName, atom_used, counts, entry_of, given_by, gives, names_used}

@@ -2,14 +2,14 @@
 use Rattle.std.proofs.Common.{◌≡◌, ◌⊎◌, inl, inr, Bool, true, false, if◌then◌else◌, List, [], ◌∷◌, ◌++◌, codes, Option, Some, None, Ok, refl, subst}
 use Rattle.std.proofs.lemmas.Bool.{and_parts, not-true}
 use Rattle.serde_json.specs.Data.{Data}
-use Rattle.kapi_text.specs.Gives.{◌>>=◌}
+use Rattle.kapi_text.specs.ResultIs.{◌>>=◌}
 use Rattle.kapi_lines.specs.Lines.{NumberedLine}
 use Rattle.kapi_object.specs.Tree.{json_object}
 use Rattle.kapi_rules.specs.Points.{HasPlainResource}
 use Rattle.kapi_rules.specs.declared.point.Point.{Point}
 use Rattle.kapi_rules.specs.declared.point.Point.TheVariants as point
 use Rattle.kapi_aggregation.specs.Members.{Has}
-use Rattle.kapi_gains.proofs.Elements.{has_either}
+use Rattle.kapi_escalation_laws.proofs.Elements.{has_either}
 use Rattle.kapi_reviews.specs.declared.question.Question.{Question}
 use Rattle.kapi_suggest.specs.Events.{has_slashed_resource, is_decided, is_event, is_right, refused_if, shown_by, shown_if, shown_in, use_of, used_if, uses_in, with_shown}
 use Rattle.kapi_suggest.specs.Uses.{ArePlain}

@@ -1,7 +1,7 @@
 -- The lines of an audit log that are left give the rest of its uses.
 use Rattle.std.proofs.Common.{◌≡◌, ℕ, suc, ◌+◌, ◌<◌, ◌≤◌, List, ◌∷◌, length, map, drop, get_or, Option, Some, None, Result, Ok, Err, refl, sym, ap, subst, ◌∙◌, add-one, drop-cons}
 use Rattle.std.proofs.lemmas.List.{drop_all}
-use Rattle.kapi_text.specs.Gives.{Fails, ◌>>=◌}
+use Rattle.kapi_text.specs.ResultIs.{Fails, ◌>>=◌}
 use Rattle.kapi_lines.specs.Lines.{NumberedLine, line_of}
 use Rattle.kapi_lines.specs.declared.line.Line.{Line}
 use Rattle.kapi_access.specs.Lines.{LineError}

@@ -3,7 +3,7 @@ use Rattle.std.specs.Prelude.{ℕ, ◌==◌, Bool, false, not, ◌&&◌, if◌th
 use Rattle.std.specs.List.{before_first}
 use Rattle.std.specs.Str.{bytes_eq}
 use Rattle.serde_json.specs.Data.{Data}
-use Rattle.kapi_text.specs.Gives.{◌>>=◌}
+use Rattle.kapi_text.specs.ResultIs.{◌>>=◌}
 use Rattle.kapi_lines.specs.Lines.{NumberedLine}
 use Rattle.kapi_model.specs.declared.identity.Identity.{Identity}
 use Rattle.kapi_object.specs.Contents.{text_at, texts_at}

@@ -15,7 +15,7 @@ use Rattle.kapi_rules.specs.declared.point.Point.TheVariants as point
 use Rattle.kapi_policy.specs.Decided.{held}
 use Rattle.kapi_policy.specs.Objects.{PolicyObjects}
 use Rattle.kapi_aggregation.specs.Members.{Has}
-use Rattle.kapi_gains.specs.Access.{may}
+use Rattle.kapi_escalation_laws.specs.Access.{may}
 use Rattle.kapi_reviews.specs.declared.question.Question.{Question}
 
 -- `RESOURCE`, or `RESOURCE/SUBRESOURCE`

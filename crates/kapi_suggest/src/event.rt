@@ -2,9 +2,9 @@
 ghost use Rattle.std.specs.Prelude.{◌≡◌, ◌++◌, ◌∷◌, [], IfOk, OnOk, map};
 ghost use Rattle.serde_json.specs.Data.{null};
 ghost use Rattle.serde_json.specs.View.{view};
-ghost use Rattle.kapi_text.specs.Gives.{Gives};
+ghost use Rattle.kapi_text.specs.ResultIs.{ResultIs};
 ghost use Rattle.kapi_lines.specs.Lines.{line_of};
-ghost use Rattle.kapi_access.specs.Lines.{fault_told};
+ghost use Rattle.kapi_access.specs.Lines.{model_of_fault};
 ghost use Rattle.kapi_reviews.specs.Attributes.{has_slash as has_slash_of};
 ghost use Rattle.kapi_reviews.specs.Questions.{at as at_of};
 ghost use Rattle.kapi_suggest.specs.Events as shows;
@@ -232,7 +232,7 @@ fn push_use(uses: &mut Vec<Question>, used: Question) -> Result<(), Memory>
 
 /// Puts what a line shows at the end.
 fn push_event(alloc: Global, uses: &mut Vec<Question>, line: &Line<'_>) -> Result<(), LineFault>
-    ensures { Gives fault_told (λ u. uses.new.items) result (shows.with_line uses.old.items (line_of line.now)) }
+    ensures { ResultIs model_of_fault (λ u. uses.new.items) result (shows.with_line uses.old.items (line_of line.now)) }
 {
     match read_event(alloc, line.text)? {
         Shown::Used(used) => push_use(uses, used)?,
@@ -248,7 +248,7 @@ fn push_event(alloc: Global, uses: &mut Vec<Question>, line: &Line<'_>) -> Resul
 /// # Errors
 /// `Question` at the first line that is no event, `Memory` if memory runs out.
 pub fn read_events(alloc: Global, lines: &[Line<'_>]) -> Result<Vec<Question>, LineFault>
-    ensures { Gives fault_told (λ v. v.items) result (shows.uses_in [] (map line_of lines.now)) }
+    ensures { ResultIs model_of_fault (λ v. v.items) result (shows.uses_in [] (map line_of lines.now)) }
 {
     let mut uses = Vec::new(alloc);
     for line in lines {

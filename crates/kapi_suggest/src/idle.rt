@@ -2,7 +2,7 @@
 ghost use Rattle.std.specs.Prelude.{◌≡◌, ◌++◌, map, IfOk, OnOk};
 ghost use Rattle.std.specs.List.{filter, list_any};
 ghost use Rattle.kapi_model.specs.Subjects.{subject_matches as matches_of};
-ghost use Rattle.kapi_gains.specs.Access.{may};
+ghost use Rattle.kapi_escalation_laws.specs.Access.{may};
 ghost use Rattle.kapi_policy.specs.All.{all_bindings};
 ghost use Rattle.kapi_policy.specs.Views.{binding_of};
 ghost use Rattle.kapi_access.specs.Grantees.{role_of};

@@ -8,7 +8,7 @@ ghost use Rattle.kapi_rules.specs.Points.{HasPlainResource};
 ghost use Rattle.kapi_rules.specs.declared.point.Point.{Point};
 ghost use Rattle.kapi_lines.specs.Lines.{NumberedLine};
 ghost use Rattle.kapi_policy.specs.Objects.{PolicyObjects};
-ghost use Rattle.kapi_gains.specs.Access.{may};
+ghost use Rattle.kapi_escalation_laws.specs.Access.{may};
 ghost use Rattle.kapi_reviews.specs.declared.question.Question.{Question};
 ghost use Rattle.kapi_suggest.specs.Events.{uses_in};
 ghost use Rattle.kapi_suggest.specs.Needs.{allows_by, suggested};

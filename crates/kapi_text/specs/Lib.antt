@@ -1,2 +1,2 @@
-pub mod Gives
+pub mod ResultIs
 pub mod Kept

@@ -11,14 +11,14 @@ use Rattle.kapi_transcripts.specs.declared.case.Case.{Case}
 use Rattle.kapi_transcripts.specs.declared.case.ScriptLine.{ScriptLine}
 use Rattle.kapi_transcripts.specs.declared.case.Loaded.{Loaded}
 use Rattle.kapi_transcripts.specs.declared.case.Manifests.{Manifests}
-use Rattle.kapi_transcripts.specs.declared.case.Want.{Want}
+use Rattle.kapi_transcripts.specs.declared.case.Expectation.{Expectation}
 use Rattle.kapi_transcripts.specs.declared.draft.Draft.{Draft}
 use Rattle.kapi_transcripts.specs.declared.form.Form.{Form}
 use Rattle.kapi_transcripts.specs.declared.form.Form.TheVariants as form
 use Rattle.kapi_transcripts.specs.declared.form.Source.{Source}
 use Rattle.kapi_transcripts.specs.declared.form.Source.TheVariants as source
 use Rattle.kapi_transcripts.specs.declared.request.Request.{Request}
-use Rattle.kapi_transcripts.specs.declared.wanted.Wanted.{Wanted}
+use Rattle.kapi_transcripts.specs.declared.wanted.Expected.{Expected}
 use Rattle.kapi_lines.specs.Words.{begins}
 
 -- a case that is being read: the line that begins it, or 0 if none does; what it begins with, its files of kinds, whether
@@ -30,7 +30,7 @@ pub record PlainDraft : Type 0 where
   pub kinds : List Loaded
   pub rechecks : Bool
   pub script : List ScriptLine
-  pub wants : List Want
+  pub wants : List Expectation
   pub opened : List (List ℕ)
   pub taken : Option ℕ
   pub fields : Bool
@@ -111,7 +111,7 @@ with_kinds d l name =
     if length d.script == 0 then record d { kinds = d.kinds ++ record { number = l.number; name = name } ∷ []; fields = false } else raw d l.number l.text
 
 -- something is wanted of the last answer
-abbrev pub wants : PlainDraft → ℕ → Wanted → PlainDraft
+abbrev pub wants : PlainDraft → ℕ → Expected → PlainDraft
 wants d n wanted = record d { wants = d.wants ++ record { number = n; events = length d.script; wanted = wanted } ∷ []; fields = false }
 
 -- a header field belongs to the request above it
@@ -126,7 +126,7 @@ drafted d l form.Field later = field d l
 drafted d l form.Pump later = pumped d l
 drafted d l form.Recheck later = rechecked d l
 drafted d l (form.Kinds name) later = with_kinds d l name
-drafted d l (form.Want wanted) later = wants d l.number wanted
+drafted d l (form.Expectation wanted) later = wants d l.number wanted
 drafted d l f later = raw d l.number l.text
 
 -- ---- the cases

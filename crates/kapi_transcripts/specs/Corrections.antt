@@ -4,8 +4,8 @@ use Rattle.std.specs.Char.{is_ascii_digit}
 use Rattle.std.specs.List.{list_all}
 use Rattle.kapi_lines.specs.Words.{begins}
 use Rattle.kapi_transcripts.specs.Sent.{body_of, sent_of}
-use Rattle.kapi_transcripts.specs.declared.wanted.Wanted.{Wanted}
-use Rattle.kapi_transcripts.specs.declared.wanted.Wanted.TheVariants as wants
+use Rattle.kapi_transcripts.specs.declared.wanted.Expected.{Expected}
+use Rattle.kapi_transcripts.specs.declared.wanted.Expected.TheVariants as wants
 
 -- the three digits that a text begins with, if it does
 abbrev pub digits_in : List ℕ → Option (List ℕ)
@@ -40,16 +40,16 @@ word_or sign None answer = exactly answer
 word_or sign (Some word) answer = signed sign word
 
 -- the line that wants what was sent: its code or its body, if that was wanted and is there, and else exactly the answer
-abbrev pub corrected_by : Wanted → List ℕ → List ℕ → List ℕ
+abbrev pub corrected_by : Expected → List ℕ → List ℕ → List ℕ
 corrected_by (wants.Reply code text) bytes answer = word_or (codes "= ") (code_in bytes) answer
 corrected_by (wants.Body text) bytes answer = word_or (codes "== ") (body_in bytes) answer
 corrected_by wanted bytes answer = exactly answer
 
 -- the line that wants what came; exactly the answer, if it sent nothing
-abbrev pub corrected_if : Wanted → Option (List ℕ) → List ℕ → List ℕ
+abbrev pub corrected_if : Expected → Option (List ℕ) → List ℕ → List ℕ
 corrected_if wanted None answer = exactly answer
 corrected_if wanted (Some bytes) answer = corrected_by wanted bytes answer
 
 -- the line that expects the actual answer, in the form of the original expectation if this form can state it
-abbrev pub corrected : Wanted → List ℕ → List ℕ
+abbrev pub corrected : Expected → List ℕ → List ℕ
 corrected wanted answer = corrected_if wanted (sent_of answer) answer

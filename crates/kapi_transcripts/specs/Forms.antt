@@ -8,7 +8,7 @@ use Rattle.kapi_transcripts.specs.Wants.{wanted_of}
 use Rattle.kapi_transcripts.specs.declared.form.Form.{Form}
 use Rattle.kapi_transcripts.specs.declared.form.Form.TheVariants as form
 use Rattle.kapi_transcripts.specs.declared.form.Source.TheVariants as source
-use Rattle.kapi_transcripts.specs.declared.wanted.Wanted.{Wanted}
+use Rattle.kapi_transcripts.specs.declared.wanted.Expected.{Expected}
 use Rattle.kapi_lines.specs.Words.{begins}
 
 -- a header field, or a line of a script
@@ -25,9 +25,9 @@ abbrev pub line_form_of : List ℕ → Form
 line_form_of line = request_form line (request_line line)
 
 -- what is wanted, or another line
-abbrev pub want_form : List ℕ → Option Wanted → Form
+abbrev pub want_form : List ℕ → Option Expected → Form
 want_form line None = line_form_of line
-want_form line (Some wanted) = form.Want wanted
+want_form line (Some wanted) = form.Expectation wanted
 
 -- an identity; a line of no known form, if a name is none
 abbrev pub actor_form : List ℕ → Form

@@ -7,7 +7,7 @@ use Rattle.kapi_lines.specs.Words.{nth}
 use Rattle.kapi_transcripts.specs.Corrections.{corrected, exactly}
 use Rattle.kapi_transcripts.specs.Requests.{number_line}
 use Rattle.kapi_transcripts.specs.Wants.{wanted_of}
-use Rattle.kapi_transcripts.specs.declared.wanted.Wanted.{Wanted}
+use Rattle.kapi_transcripts.specs.declared.wanted.Expected.{Expected}
 use Rattle.kapi_transcripts.specs.declared.failure.Difference.{Difference}
 use Rattle.kapi_transcripts.specs.declared.failure.Failure.{Failure}
 use Rattle.kapi_transcripts.specs.declared.failure.Failure.TheVariants as failure
@@ -97,7 +97,7 @@ came_for n [] = None
 came_for n (f ∷ fs) = option_or (answer_for n f) (came_for n fs)
 
 -- the line that expects the actual answer, in place of this expectation
-abbrev pub corrected_line : Option Wanted → List ℕ → List ℕ
+abbrev pub corrected_line : Option Expected → List ℕ → List ℕ
 corrected_line None answer = exactly answer
 corrected_line (Some wanted) answer = corrected wanted answer
 

@@ -1,4 +1,4 @@
-use crate::wanted::Wanted;
+use crate::wanted::Expected;
 use kapi_text::Sequence;
 
 /// A file whose objects a machine begins with, and the line that names it.
@@ -36,10 +36,10 @@ pub struct ScriptLine {
 
 /// An expectation of a line of the transcript about the answer to the last of the first `events` events of its case.
 #[derive(Drop)]
-pub struct Want {
+pub struct Expectation {
     pub number: usize,
     pub events: usize,
-    pub wanted: Wanted,
+    pub wanted: Expected,
 }
 
 /// A case of a transcript: a script on a machine of its own, and what is wanted of its answers.
@@ -53,5 +53,5 @@ pub struct Case {
     /// The rights of watches are rechecked at each of their events.
     pub rechecks: bool,
     pub script: Sequence<ScriptLine>,
-    pub wants: Sequence<Want>,
+    pub wants: Sequence<Expectation>,
 }

@@ -4,13 +4,13 @@ ghost use Rattle.kapi_transcripts.specs.Corrections as corrections;
 ghost use Rattle.kapi_transcripts.specs.Corrections.{corrected as corrected_of, exactly as exactly_of};
 
 use crate::sent::{body, sent};
-use crate::wanted::Wanted;
+use crate::wanted::Expected;
 use kapi_text::{Memory, Sequence, are_digits};
 use std::alloc::Global;
 
 /// An expectation of the actual answer: of its code or its body, if that is what `wanted` expects and the answer has
 /// it, else of the exact answer.
-pub fn corrected(alloc: Global, wanted: &Wanted, answer: &[u8]) -> Result<Sequence<u8>, Memory>
+pub fn corrected(alloc: Global, wanted: &Expected, answer: &[u8]) -> Result<Sequence<u8>, Memory>
     ensures { IfOk result (λ s. s ≡ corrected_of wanted.now answer.now) }
 {
     match sent(alloc, answer)? {
@@ -22,17 +22,17 @@ pub fn corrected(alloc: Global, wanted: &Wanted, answer: &[u8]) -> Result<Sequen
 /// The line that wants what was sent.
 fn corrected_by(
     alloc: Global,
-    wanted: &Wanted,
+    wanted: &Expected,
     bytes: &[u8],
     answer: &[u8],
 ) -> Result<Sequence<u8>, Memory>
     ensures { IfOk result (λ s. s ≡ corrections.corrected_by wanted.now bytes.now answer.now) }
 {
     match wanted {
-        Wanted::Reply(_code, _text) => word_or(alloc, b"= ", code_in(bytes), answer),
-        Wanted::Body(_text) => word_or(alloc, b"== ", body_in(bytes), answer),
-        Wanted::Text(_text) => exactly(alloc, answer),
-        Wanted::Line(_text) => exactly(alloc, answer),
+        Expected::Reply(_code, _text) => word_or(alloc, b"= ", code_in(bytes), answer),
+        Expected::Body(_text) => word_or(alloc, b"== ", body_in(bytes), answer),
+        Expected::Text(_text) => exactly(alloc, answer),
+        Expected::Line(_text) => exactly(alloc, answer),
     }
 }
 

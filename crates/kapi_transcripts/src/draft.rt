@@ -4,10 +4,10 @@ ghost use Rattle.kapi_lines.specs.Lines.{line_of};
 ghost use Rattle.kapi_transcripts.specs.Cases as cased;
 ghost use Rattle.kapi_transcripts.specs.Cases.{case_of, cases_from, draft_of, drafted, fresh};
 
-use crate::case::{Beginning, Case, Loaded, Manifests, ScriptLine, Want};
+use crate::case::{Beginning, Case, Expectation, Loaded, Manifests, ScriptLine};
 use crate::form::{Form, Source, parse_form};
 use crate::request::{Request, feed_line, request_bytes, word_line};
-use crate::wanted::Wanted;
+use crate::wanted::Expected;
 use kapi_lines::{Line, copy_of};
 use kapi_text::{Memory, Sequence};
 use std::alloc::Global;
@@ -22,7 +22,7 @@ pub struct Draft {
     kinds: Vec<Loaded>,
     rechecks: bool,
     script: Vec<ScriptLine>,
-    wants: Vec<Want>,
+    wants: Vec<Expectation>,
     /// The names that the connections were opened for, in their order.
     opened: Vec<Sequence<u8>>,
     /// The connection that was taken last.
@@ -188,11 +188,11 @@ impl Draft {
     }
 
     /// Adds what is wanted of the last answer.
-    fn push_want(&mut self, number: usize, wanted: Wanted) -> Result<(), Memory>
+    fn push_want(&mut self, number: usize, wanted: Expected) -> Result<(), Memory>
         ensures { OnOk result (draft_of self.new ≡ cased.wants (draft_of self.old) number wanted) }
     {
         let events = self.script.len();
-        self.wants.push(Want {
+        self.wants.push(Expectation {
             number,
             events,
             wanted,
@@ -228,7 +228,7 @@ impl Draft {
             Form::Pump => self.push_pump(alloc, line),
             Form::Recheck => self.push_recheck(alloc, line),
             Form::Kinds(name) => self.push_kinds(alloc, line, name),
-            Form::Want(wanted) => self.push_want(line.number, wanted),
+            Form::Expectation(wanted) => self.push_want(line.number, wanted),
             Form::Begin(_) | Form::Event => self.push_line(alloc, line.number, line.text),
         }
     }

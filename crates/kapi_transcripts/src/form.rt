@@ -9,7 +9,7 @@ ghost use Rattle.kapi_transcripts.specs.Names.{is_name as is_name_of};
 
 use crate::field::is_field;
 use crate::request::{Request, parse_request, request_line};
-use crate::wanted::{Wanted, parse_wanted};
+use crate::wanted::{Expected, parse_wanted};
 use kapi_lines::{as_text, copy_of};
 use kapi_text::{Memory, Sequence};
 use std::alloc::Global;
@@ -46,7 +46,7 @@ pub enum Form {
     /// `kinds FILE`: the kinds of that file are served in this case.
     Kinds(Sequence<u8>),
     /// What is wanted of the last answer.
-    Want(Wanted),
+    Expectation(Expected),
     /// A line of a script.
     Event,
 }
@@ -81,7 +81,7 @@ pub fn parse_form(alloc: Global, line: &[u8]) -> Result<Form, Memory>
         return Ok(actor_form(copy_of(alloc, &line[3..])?));
     }
     match parse_wanted(alloc, line)? {
-        Some(wanted) => Ok(Form::Want(wanted)),
+        Some(wanted) => Ok(Form::Expectation(wanted)),
         None => line_form(alloc, line),
     }
 }

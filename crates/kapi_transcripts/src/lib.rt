@@ -18,7 +18,7 @@ mod sent;
 mod wanted;
 
 pub use asked::attributes_of;
-pub use case::{Beginning, Case, Loaded, Manifests, ScriptLine, Want};
+pub use case::{Beginning, Case, Expectation, Loaded, Manifests, ScriptLine};
 pub use correction::{corrected, exactly};
 pub use draft::{Draft, cases};
 pub use failure::{Check, Difference, Doubt, Failure, Outcome};
@@ -28,4 +28,4 @@ pub use junit::junit_text;
 pub use loads::{cases_in, loaded_names};
 pub use report::{are_sure, are_well, is_difference, line_at, outcome_text};
 pub use request::{Request, push_number};
-pub use wanted::{Wanted, is_met, parse_wanted};
+pub use wanted::{Expected, is_met, parse_wanted};

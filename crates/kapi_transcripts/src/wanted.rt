@@ -11,7 +11,7 @@ use std::alloc::Global;
 
 /// What is wanted of an answer.
 #[derive(Drop)]
-pub enum Wanted {
+pub enum Expected {
     /// `= CODE [TEXT]`: a reply of that code, with the text in it.
     Reply(Sequence<u8>, Sequence<u8>),
     /// `== BODY`: a reply with this body.
@@ -24,26 +24,26 @@ pub enum Wanted {
 
 /// What a line wants; nothing if it is of another form.
 #[tactic(auto, unfolding(crate::specs::Wants::wanted_of))]
-pub fn parse_wanted(alloc: Global, line: &[u8]) -> Result<Option<Wanted>, Memory>
+pub fn parse_wanted(alloc: Global, line: &[u8]) -> Result<Option<Expected>, Memory>
     ensures { IfOk result (λ w. w ≡ wanted_of line.now) }
 {
     if line.starts_with(b"= ") {
         return parse_reply(alloc, &line[2..]);
     }
     if line.starts_with(b"== ") {
-        return Ok(Some(Wanted::Body(copy_of(alloc, &line[3..])?)));
+        return Ok(Some(Expected::Body(copy_of(alloc, &line[3..])?)));
     }
     if line.starts_with(b"~ ") {
-        return Ok(Some(Wanted::Text(copy_of(alloc, &line[2..])?)));
+        return Ok(Some(Expected::Text(copy_of(alloc, &line[2..])?)));
     }
     if line.starts_with(b"> ") {
-        return Ok(Some(Wanted::Line(copy_of(alloc, &line[2..])?)));
+        return Ok(Some(Expected::Line(copy_of(alloc, &line[2..])?)));
     }
     Ok(None)
 }
 
 /// `CODE` or `CODE TEXT`.
-fn parse_reply(alloc: Global, rest: &[u8]) -> Result<Option<Wanted>, Memory>
+fn parse_reply(alloc: Global, rest: &[u8]) -> Result<Option<Expected>, Memory>
     ensures { IfOk result (λ w. w ≡ reply_of rest.now) }
 {
     if rest.len() < 3 {
@@ -58,14 +58,14 @@ fn parse_reply(alloc: Global, rest: &[u8]) -> Result<Option<Wanted>, Memory>
 }
 
 /// A reply of that code, with the text behind a space.
-fn reply_with(alloc: Global, code: &[u8], behind: &[u8]) -> Result<Option<Wanted>, Memory>
+fn reply_with(alloc: Global, code: &[u8], behind: &[u8]) -> Result<Option<Expected>, Memory>
     ensures { IfOk result (λ w. w ≡ wants.reply_with code.now behind.now) }
 {
     match behind {
-        [] => Ok(Some(Wanted::Reply(copy_of(alloc, code)?, copy_of(alloc, behind)?))),
+        [] => Ok(Some(Expected::Reply(copy_of(alloc, code)?, copy_of(alloc, behind)?))),
         [first, text @ ..] => {
             if *first == b' ' {
-                Ok(Some(Wanted::Reply(copy_of(alloc, code)?, copy_of(alloc, text)?)))
+                Ok(Some(Expected::Reply(copy_of(alloc, code)?, copy_of(alloc, text)?)))
             } else {
                 Ok(None)
             }
@@ -74,17 +74,17 @@ fn reply_with(alloc: Global, code: &[u8], behind: &[u8]) -> Result<Option<Wanted
 }
 
 /// Whether the line of an answer is as wanted.
-pub fn is_met(alloc: Global, wanted: &Wanted, line: &[u8]) -> Result<bool, Memory>
+pub fn is_met(alloc: Global, wanted: &Expected, line: &[u8]) -> Result<bool, Memory>
     ensures { IfOk result (λ b. b ≡ is_met_of wanted.now line.now) }
 {
     match wanted {
-        Wanted::Line(text) => Ok(line == text.as_slice()),
+        Expected::Line(text) => Ok(line == text.as_slice()),
         _ => is_met_by_sent(alloc, wanted, line),
     }
 }
 
 /// Whether the bytes that an answer sent are as wanted; nothing is met if it sent none.
-fn is_met_by_sent(alloc: Global, wanted: &Wanted, line: &[u8]) -> Result<bool, Memory>
+fn is_met_by_sent(alloc: Global, wanted: &Expected, line: &[u8]) -> Result<bool, Memory>
     ensures { IfOk result (λ b. b ≡ wants.is_met_by wanted.now (sent_of line.now)) }
 {
     match sent(alloc, line)? {
@@ -94,20 +94,20 @@ fn is_met_by_sent(alloc: Global, wanted: &Wanted, line: &[u8]) -> Result<bool, M
 }
 
 /// Whether bytes that were sent are as wanted.
-fn meets(alloc: Global, wanted: &Wanted, bytes: &[u8]) -> Result<bool, Memory>
+fn meets(alloc: Global, wanted: &Expected, bytes: &[u8]) -> Result<bool, Memory>
     ensures { IfOk result (λ b. b ≡ wants.meets wanted.now bytes.now) }
 {
     match wanted {
-        Wanted::Reply(code, text) => {
+        Expected::Reply(code, text) => {
             if has_code(bytes, code.as_slice()) {
                 shows(alloc, bytes, text.as_slice())
             } else {
                 Ok(false)
             }
         }
-        Wanted::Body(text) => Ok(has_body(bytes, text.as_slice())),
-        Wanted::Text(text) => shows(alloc, bytes, text.as_slice()),
-        Wanted::Line(_text) => Ok(false),
+        Expected::Body(text) => Ok(has_body(bytes, text.as_slice())),
+        Expected::Text(text) => shows(alloc, bytes, text.as_slice()),
+        Expected::Line(_text) => Ok(false),
     }
 }
 

@@ -12,14 +12,14 @@ use Rattle.kapi_store.specs.declared.change.Change.{Change}
 use Rattle.kapi_store.specs.declared.key.Key.{Key}
 use Rattle.kapi_store.specs.declared.stored.StoredObject.{StoredObject}
 use Rattle.kapi_watch.specs.Shown.{selected}
-use Rattle.kapi_watch.specs.declared.scope.Scope.{Scope}
+use Rattle.kapi_watch.specs.declared.scope.WatchScope.{WatchScope}
 
 -- the values of the labels that are kept are those of the object
 labels_told : (o : StoredObject) → value_in (labels_of (stored_tree o)) ≡ label_in (in_metadata (codes "labels") (stored_tree o))
 labels_told o = values_kept (stored_tree o) (told_ordered o.text o.reads)
 
 -- objects with the same labels are watched alike
-listed_alike : (s : Scope) (k : Key) (old new : StoredObject) → labels_of (stored_tree new) ≡ labels_of (stored_tree old)
+listed_alike : (s : WatchScope) (k : Key) (old new : StoredObject) → labels_of (stored_tree new) ≡ labels_of (stored_tree old)
     → is_listed s.row s.namespace s.selector s.name k (stored_tree new) ≡ is_listed s.row s.namespace s.selector s.name k (stored_tree old)
 unfolding is_listed
 listed_alike s k old new same =
@@ -32,7 +32,7 @@ chosen false d e = refl
 same_labels : (a b : List Label) → Some a ≡ Some b → a ≡ b
 same_labels a b is = cc is
 
-stays_watched : (s : Scope) (k : Key) (old : StoredObject) (new : Option StoredObject) → option_map (λ n. labels_of (stored_tree n)) new ≡ Some (labels_of (stored_tree old))
+stays_watched : (s : WatchScope) (k : Key) (old : StoredObject) (new : Option StoredObject) → option_map (λ n. labels_of (stored_tree n)) new ≡ Some (labels_of (stored_tree old))
     → selected s k (Some (stored_tree old)) ≡ (if is_some (selected s k (option_map stored_tree new)) then Some (stored_tree old) else None)
 stays_watched s k old None same = absurd (cc same)
 stays_watched s k old (Some new) same =
@@ -43,7 +43,7 @@ no_text None h = refl
 no_text (Some t) h = absurd (cc h)
 
 -- the object before a change by which labels stay was watched if the one after it is
-pub watched_alike : (s : Scope) (c : Change) (b : Bool) (old : StoredObject) → is_some c.gone ≡ false → b ≡ is_some (selected s c.key (option_map stored_tree c.new))
+pub watched_alike : (s : WatchScope) (c : Change) (b : Bool) (old : StoredObject) → is_some c.gone ≡ false → b ≡ is_some (selected s c.key (option_map stored_tree c.new))
     → c.old ≡ Some old → (if b then Some (stored_tree old) else None) ≡ selected s c.key (option_map stored_tree c.old)
 watched_alike s c b old none after was = rw (was, after) (sym (stays_watched s c.key old c.new (c.stays old was (no_text c.gone none))))
 
@@ -60,7 +60,7 @@ apart : (a b : Bool) → a ≡ true → b ≡ false → b ≡ a → ⊥
 apart a b h g e = cc (h, g, e)
 
 -- what stays with its labels is no less watched
-still_there : (s : Scope) (k : Key) (old : StoredObject) (new : Option StoredObject) → selected s k (Some (stored_tree old)) ≡ Some (stored_tree old) → selected s k (option_map stored_tree new) ≡ None
+still_there : (s : WatchScope) (k : Key) (old : StoredObject) (new : Option StoredObject) → selected s k (Some (stored_tree old)) ≡ Some (stored_tree old) → selected s k (option_map stored_tree new) ≡ None
     → option_map (λ n. labels_of (stored_tree n)) new ≡ Some (labels_of (stored_tree old)) → ⊥
 still_there s k old None was gone same = cc same
 still_there s k old (Some new) was gone same =
@@ -75,7 +75,7 @@ was_there (Some s) d h = (s, refl, inside _ _ h)
     inside a b is = cc is
 
 -- a change that a watch sees an object go by has the object's text
-pub has_text : (s : Scope) (c : Change) (old : Data) → option_map stored_tree c.old ≡ Some old → selected s c.key (Some old) ≡ Some old → selected s c.key (option_map stored_tree c.new) ≡ None
+pub has_text : (s : WatchScope) (c : Change) (old : Data) → option_map stored_tree c.old ≡ Some old → selected s c.key (Some old) ≡ Some old → selected s c.key (option_map stored_tree c.new) ≡ None
     → c.gone ≡ None → ⊥
 has_text s c old was watched gone none =
     let before = was_there c.old old was in

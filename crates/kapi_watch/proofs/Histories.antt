@@ -3,7 +3,7 @@ use Rattle.std.proofs.Common.{◌≡◌, ℕ, ◌+◌, Bool, true, false, List, 
 use Rattle.std.specs.List.{AllByRecursion, IsDistinct}
 use Rattle.std.specs.Map.{lookup, remove_entry}
 use Rattle.serde_json.specs.Data.{Data}
-use Rattle.kapi_text.specs.Gives.{◌>>=◌}
+use Rattle.kapi_text.specs.ResultIs.{◌>>=◌}
 use Rattle.kapi_store.proofs.Keys.{key_same, key_total}
 use Rattle.kapi_store.proofs.Places.{nothing_stands}
 use Rattle.kapi_store.proofs.Windows.{Follow_append}

@@ -15,7 +15,7 @@ use Rattle.kapi_store.specs.Keys.{is_key, key_cmp}
 use Rattle.kapi_store.specs.Listing.{is_listed}
 use Rattle.kapi_store.specs.Plain.{Plain, PlainChange, trees_left_by}
 use Rattle.kapi_store.specs.declared.key.Key.{Key}
-use Rattle.kapi_watch.specs.declared.scope.Scope.{Scope}
+use Rattle.kapi_watch.specs.declared.scope.WatchScope.{WatchScope}
 use Rattle.kapi_watch.specs.Histories.{IsNamedBy, AreMadeOf, IsHistory}
 use Rattle.kapi_watch.specs.Lists.{objects_after, up_to, listed, list_at, list_now, place_in, on_top, all_on_top, DueRebuildsList, FirstRebuildsList, ShownRebuildsList, FirstShownRebuildsList, StoreShowsTheList, StoreShowedTheList}
 use Rattle.kapi_watch.specs.Runs.{Step, Made, Pump, HoldsOn, history_after, watch_after, shown_over, still_due}
@@ -108,7 +108,7 @@ events_in es = map (λ e. e.1) es
 
 -- ---- one change
 
-module _ (scope : Scope) where
+module _ (scope : WatchScope) where
   abbrev takes : Key × Data → Bool
   takes e = is_listed scope.row scope.namespace scope.selector scope.name e.0 e.1
 
@@ -256,7 +256,7 @@ up_to_counted : (h more : List PlainChange) (s : Plain) → s.revision ≡ s.fir
 up_to_counted h more s counted k = up_to_front (λ c. c.revision) s.revision s.first h more counted k.numbered
 
 -- the list at that revision is the one of the objects that the part made
-pub counted_showed : (h more : List PlainChange) (s : Plain) (scope : Scope) → s.objects ≡ placed_all (trees_left_by h) [] → s.revision ≡ s.first + length h → IsHistory s.first (h ++ more)
+pub counted_showed : (h more : List PlainChange) (s : Plain) (scope : WatchScope) → s.objects ≡ placed_all (trees_left_by h) [] → s.revision ≡ s.first + length h → IsHistory s.first (h ++ more)
     → list_at scope s.revision (h ++ more) ≡ listed scope s.objects
 counted_showed h more s scope made counted k = ap (λ cs. listed scope (objects_after cs)) (up_to_counted h more s counted k) ∙ ap (listed scope) (sym made)
 
@@ -273,11 +273,11 @@ store_showed store h more s scope stands k =
 -- ---- a watch that shows what is listed first
 
 -- a watch that shows the objects first makes the list at its start
-first_made : (revision : ℕ) (scope : Scope) (os : List (Key × Data)) → Keeps os → all_on_top scope [] (events_in (first_due revision (trees_in (listed scope os)))) ≡ listed scope os
+first_made : (revision : ℕ) (scope : WatchScope) (os : List (Key × Data)) → Keeps os → all_on_top scope [] (events_in (first_due revision (trees_in (listed scope os)))) ≡ listed scope os
 first_made revision scope os k =
     added scope revision [] (listed scope os) (filter_sorted key_cmp key_total key_same (takes scope) os k.sorted) (places scope os k.named)
 
-pub counted_first_is_the_list : (h more : List PlainChange) (s : Plain) (scope : Scope) → s.objects ≡ placed_all (trees_left_by h) [] → s.revision ≡ s.first + length h
+pub counted_first_is_the_list : (h more : List PlainChange) (s : Plain) (scope : WatchScope) → s.objects ≡ placed_all (trees_left_by h) [] → s.revision ≡ s.first + length h
     → IsHistory s.first (h ++ more) → all_on_top scope [] (still_due (h ++ more) (started_now s scope)) ≡ list_now scope (h ++ more)
 unfolding due
 counted_first_is_the_list h more s scope made counted k =
@@ -318,7 +318,7 @@ history_goes_on [] h = sym (append-nil h)
 history_goes_on (Made cs ∷ ts) h = history_goes_on ts (h ++ cs) ∙ append_assoc h cs (made_in ts)
 history_goes_on (Pump ∷ ts) h = history_goes_on ts h
 
-pub counted_first_shown : (ts : List Step) (h : List PlainChange) (s : Plain) (scope : Scope) → s.objects ≡ placed_all (trees_left_by h) [] → s.revision ≡ s.first + length h
+pub counted_first_shown : (ts : List Step) (h : List PlainChange) (s : Plain) (scope : WatchScope) → s.objects ≡ placed_all (trees_left_by h) [] → s.revision ≡ s.first + length h
     → IsHistory s.first (history_after ts h) → HoldsOn ts h s (started_now s scope) → still_due (history_after ts h) (watch_after ts h s (started_now s scope)) ≡ []
     → all_on_top scope [] (shown_over ts h s (started_now s scope)) ≡ list_now scope (history_after ts h)
 counted_first_shown ts h s scope made counted k holds none =

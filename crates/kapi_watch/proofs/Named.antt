@@ -17,7 +17,7 @@ use Rattle.kapi_store.specs.Gone.{at_version, changed_at, with_changed}
 use Rattle.kapi_store.specs.Listing.{is_asked, is_listed, is_within}
 use Rattle.kapi_store.specs.UidAndVersion.{created_tree, metadata_text, replaced_tree, uid_in, uid_of, version_in, with_stamps_of}
 use Rattle.kapi_store.specs.declared.key.Key.{Key}
-use Rattle.kapi_watch.specs.declared.scope.Scope.{Scope}
+use Rattle.kapi_watch.specs.declared.scope.WatchScope.{WatchScope}
 use Rattle.kapi_watch.specs.Histories.{IsNamedBy}
 use Rattle.kapi_watch.specs.Lists.{place_in}
 
@@ -88,7 +88,7 @@ named_at_version k revision tree h = (text_at_version (codes "namespace") revisi
 -- ---- the place
 
 -- the place of what is listed at a key that names it is the key
-pub place_is : (scope : Scope) (k : Key) (other tree : Data) → is_listed scope.row scope.namespace scope.selector scope.name k other ≡ true → IsNamedBy k tree → place_in scope tree ≡ k
+pub place_is : (scope : WatchScope) (k : Key) (other tree : Data) → is_listed scope.row scope.namespace scope.selector scope.name k other ≡ true → IsNamedBy k tree → place_in scope tree ≡ k
 unfolding is_listed
 place_is scope k other tree is named =
     let within : is_within scope.row scope.namespace scope.name k ≡ true = first_so (is_within scope.row scope.namespace scope.name k) (matches scope.selector (in_metadata (codes "labels") other)) is in

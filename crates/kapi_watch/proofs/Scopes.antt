@@ -5,7 +5,7 @@ use Rattle.kapi_store.specs.Listing.{is_within, is_listed}
 use Rattle.kapi_store.specs.Plain.{PlainChange}
 use Rattle.kapi_store.specs.declared.key.Key.{Key}
 use Rattle.kapi_watch.specs.Shown.{selected, shown_of}
-use Rattle.kapi_watch.specs.declared.scope.Scope.{Scope}
+use Rattle.kapi_watch.specs.declared.scope.WatchScope.{WatchScope}
 
 -- the first and the third of four conditions change places
 pub is_within_swaps : (group plural namespace name : Bool) → namespace && (plural && (group && name)) ≡ group && (plural && (namespace && name))
@@ -19,15 +19,15 @@ is_within_swaps false false true name = refl
 is_within_swaps false false false name = refl
 
 -- the key is within the scope
-abbrev pub is_in_scope : Scope → Key → Bool
+abbrev pub is_in_scope : WatchScope → Key → Bool
 is_in_scope s k = is_within s.row s.namespace s.name k
 
-out_selects : (s : Scope) (k : Key) → is_in_scope s k ≡ false → (o : Option Data) → selected s k o ≡ None
+out_selects : (s : WatchScope) (k : Key) → is_in_scope s k ≡ false → (o : Option Data) → selected s k o ≡ None
 unfolding is_listed
 out_selects s k out None = refl
 out_selects s k out (Some tree) = rw out refl
 
 -- a change at a key that is not within the scope shows nothing
-pub out_shows : (s : Scope) (c : PlainChange) → is_in_scope s c.key ≡ false → shown_of s c ≡ None
+pub out_shows : (s : WatchScope) (c : PlainChange) → is_in_scope s c.key ≡ false → shown_of s c ≡ None
 unfolding shown_of
 out_shows s c out = rw (out_selects s c.key out c.old, out_selects s c.key out c.new) refl

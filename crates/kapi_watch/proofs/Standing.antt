@@ -9,7 +9,7 @@ use Rattle.kapi_store.specs.Stored.{stored_tree}
 use Rattle.kapi_store.specs.declared.key.Key.{Key}
 use Rattle.kapi_store.specs.Changes.{Follow}
 use Rattle.kapi_store.specs.Plain.{Plain, PlainChange, changes_after, trees}
-use Rattle.kapi_watch.specs.declared.scope.Scope.{Scope}
+use Rattle.kapi_watch.specs.declared.scope.WatchScope.{WatchScope}
 use Rattle.kapi_watch.specs.declared.watch.Watch.{Watch}
 use Rattle.kapi_watch.specs.Shown.{Shown, Added, shown_of, shown_by, selected}
 use Rattle.kapi_watch.specs.Watches.{PlainWatch, TooLarge, TooOld, WatchFault, is_gone, startable, shown_all, later, due, is_expired, pumped, moved, after_pump}
@@ -51,7 +51,7 @@ own_pair r None e is = cc
 own_pair r (Some x) e is = let k : (r, x) ≡ e = cc in ap (λ p. p.0) (sym k)
 
 -- what a change shows has the change's revision
-pub shown_own : (scope : Scope) (c : PlainChange) (e : ℕ × Shown) → shown_of scope c ≡ Some e → e.0 ≡ c.revision
+pub shown_own : (scope : WatchScope) (c : PlainChange) (e : ℕ × Shown) → shown_of scope c ≡ Some e → e.0 ≡ c.revision
 unfolding shown_of
 shown_own scope c e is = own_pair c.revision (shown_by c.revision (selected scope c.key c.old) (selected scope c.key c.new)) e is
 

@@ -9,8 +9,8 @@ use Rattle.kapi_store.specs.Plain.{PlainChange}
 use Rattle.kapi_watch.specs.declared.event.Event.{Event}
 use Rattle.kapi_watch.specs.declared.event.Removed.{Removed}
 use Rattle.kapi_watch.specs.declared.event.Event.TheVariants as event
-use Rattle.kapi_watch.specs.declared.scope.Found.{Found}
-use Rattle.kapi_watch.specs.declared.scope.Scope.{Scope}
+use Rattle.kapi_watch.specs.declared.scope.ShownChange.{ShownChange}
+use Rattle.kapi_watch.specs.declared.scope.WatchScope.{WatchScope}
 
 -- what a watch shows: an object as it was created, or came to be selected; as it was changed; as it last was; or its
 -- end, since changes that it did not show may be kept no longer, or since its identity may not watch any more
@@ -22,7 +22,7 @@ pub data Shown : Type 0 where
   Refused : Shown
 
 -- the tree, if there is one that the watch selects
-abbrev pub selected : Scope → Key → Option Data → Option Data
+abbrev pub selected : WatchScope → Key → Option Data → Option Data
 selected s k None = None
 selected s k (Some tree) = if is_listed s.row s.namespace s.selector s.name k tree then Some tree else None
 
@@ -34,7 +34,7 @@ shown_by revision (Some old) (Some new) = Some (Modified new)
 shown_by revision (Some old) None = Some (Deleted (at_version revision old))
 
 -- what a watch shows of a change, if anything, with the change's revision
-unfoldable pub shown_of : Scope → PlainChange → Option (ℕ × Shown)
+unfoldable pub shown_of : WatchScope → PlainChange → Option (ℕ × Shown)
 shown_of s c = option_map (λ e. (c.revision, e)) (shown_by c.revision (selected s c.key c.old) (selected s c.key c.new))
 
 -- an object that goes, at the version of its removal
@@ -50,5 +50,5 @@ event_of event.Expired = Expired
 event_of event.Refused = Refused
 
 -- an event with its revision, as data
-abbrev pub found_of : Found → ℕ × Shown
+abbrev pub found_of : ShownChange → ℕ × Shown
 found_of f = (f.revision, event_of f.event)

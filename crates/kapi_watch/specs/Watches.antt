@@ -2,18 +2,18 @@
 use Rattle.std.specs.Prelude.{ℕ, ◌+◌, nat_lt, ◌==◌, Bool, not, ◌&&◌, if◌then◌else◌, List, [], ◌++◌, Option, None, Some, Result, Ok, Err, map, length, option_map, slice_get}
 use Rattle.std.specs.List.{filter, filter_map}
 use Rattle.serde_json.specs.Data.{Data}
-use Rattle.kapi_text.specs.Gives.{◌>>=◌}
+use Rattle.kapi_text.specs.ResultIs.{◌>>=◌}
 use Rattle.kapi_store.specs.Listing.{listed_trees}
 use Rattle.kapi_store.specs.Plain.{Plain, PlainChange, window_start}
 use Rattle.kapi_watch.specs.declared.error.WatchError.{WatchError}
 use Rattle.kapi_watch.specs.declared.error.WatchError.TheVariants as error
-use Rattle.kapi_watch.specs.declared.scope.Scope.{Scope}
+use Rattle.kapi_watch.specs.declared.scope.WatchScope.{WatchScope}
 use Rattle.kapi_watch.specs.Shown.{Shown, Added, Expired, shown_of}
 
 -- a watch: what it selects, the objects that are shown first, the revision at which it started, how many events it
 -- has shown, and the revision up to which it has looked
 pub record PlainWatch : Type 0 where
-  pub scope : Scope
+  pub scope : WatchScope
   pub first : List Data
   pub start : ℕ
   pub shown : ℕ
@@ -35,7 +35,7 @@ abbrev pub is_gone : Plain → ℕ → Bool
 is_gone s revision = nat_lt revision (window_start s)
 
 -- a watch of what is listed now, and of each change after it
-abbrev pub started_now : Plain → Scope → PlainWatch
+abbrev pub started_now : Plain → WatchScope → PlainWatch
 started_now s scope = record {
   scope = scope;
   first = map (λ e. e.1) (listed_trees scope.row scope.namespace scope.selector scope.name s.objects);
@@ -45,7 +45,7 @@ started_now s scope = record {
 }
 
 -- a watch of each change after a revision
-abbrev pub started_at : Scope → ℕ → PlainWatch
+abbrev pub started_at : WatchScope → ℕ → PlainWatch
 started_at scope revision = record { scope = scope; first = []; start = revision; shown = 0; position = revision }
 
 -- whether a watch can start from a revision on; 0 asks for what is listed now
@@ -57,17 +57,17 @@ startable s revision =
     Ok tt
 
 -- a watch from a revision on; 0 asks for what is listed now
-unfoldable pub watch_from : Plain → Scope → ℕ → PlainWatch
+unfoldable pub watch_from : Plain → WatchScope → ℕ → PlainWatch
 watch_from s scope revision = if revision == 0 then started_now s scope else started_at scope revision
 
 -- a watch from a revision on, or why there can be none
-abbrev pub started : Plain → Scope → ℕ → Result PlainWatch WatchFault
+abbrev pub started : Plain → WatchScope → ℕ → Result PlainWatch WatchFault
 started s scope revision = do
   u ← startable s revision
   Ok (watch_from s scope revision)
 
 -- what changes show to a watch, each with its revision
-abbrev pub shown_all : Scope → List PlainChange → List (ℕ × Shown)
+abbrev pub shown_all : WatchScope → List PlainChange → List (ℕ × Shown)
 shown_all scope cs = filter_map (shown_of scope) cs
 
 -- the changes after a revision

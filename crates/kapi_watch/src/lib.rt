@@ -15,6 +15,6 @@ pub use laws::{
     the_lists_are_those_of_the_store, what_a_watch_shows_makes_the_list,
     writes_leave_what_a_watch_stands_for,
 };
-pub use scope::Scope;
+pub use scope::WatchScope;
 pub use text::event_text;
 pub use watch::{Cursor, Next, Watch};

@@ -66,7 +66,7 @@ impl PreparedSelector {
 
 /// Which objects a watch shows.
 #[derive(Drop)]
-pub struct Scope {
+pub struct WatchScope {
     pub row: ResourceRow,
     /// The namespace, empty for all namespaces.
     pub namespace: Text,
@@ -77,7 +77,7 @@ pub struct Scope {
 
 /// What a change shows, with its revision.
 #[derive(Clone, Copy)]
-pub struct Found<'a> {
+pub struct ShownChange<'a> {
     pub revision: u64,
     pub event: Event<'a>,
 }
@@ -91,7 +91,7 @@ fn is_in_namespace(namespace: &str, key: &Key) -> bool
     namespace.is_empty() || (namespace.len() == other.len() && namespace == other)
 }
 
-impl Scope {
+impl WatchScope {
     /// The scope of the objects of a resource type, in the namespace or in all, by labels, and of the name or any.
     pub fn new(
         alloc: Global,
@@ -99,10 +99,10 @@ impl Scope {
         namespace: &str,
         selector: &Selector,
         name: &str,
-    ) -> Result<Scope, Memory>
+    ) -> Result<WatchScope, Memory>
         ensures { IfOk result (λ s. s ≡ record { row = row.now; namespace = namespace.now; selector = selector.now; name = name.now }) }
     {
-        Ok(Scope {
+        Ok(WatchScope {
             row: row.copy(alloc)?,
             namespace: Text::copy_of(alloc, namespace)?,
             selector: PreparedSelector::new(alloc, selector)?,
@@ -164,7 +164,7 @@ impl Scope {
 
     /// What a change at a key within the scope shows, if anything.
     #[tactic(auto, unfolding(crate::specs::Shown::shown_of))]
-    fn find_within<'a>(&self, change: &'a Change) -> Option<Found<'a>>
+    fn find_within<'a>(&self, change: &'a Change) -> Option<ShownChange<'a>>
         requires { is_within_of self.now.row self.now.namespace self.now.name change.now.key ≡ true }
         ensures { option_map found_of result ≡ shown_of self.now (plain_change change.now) }
     {
@@ -175,7 +175,7 @@ impl Scope {
             (Some(_old), Some(new)) => Event::Modified(new),
             (Some(old), None) => Event::Deleted(self.removed(change, old)?),
         };
-        Some(Found {
+        Some(ShownChange {
             revision: change.revision,
             event,
         })
@@ -197,7 +197,7 @@ impl Scope {
     }
 
     /// The first event that changes show, if any; each change is examined once.
-    pub fn first_of<'a>(&self, changes: &Changes<'a>) -> Option<Found<'a>>
+    pub fn first_of<'a>(&self, changes: &Changes<'a>) -> Option<ShownChange<'a>>
         ensures { option_map found_of result ≡ slice_get (filter_map (shown_of self.now) (map plain_change (changes_of changes.now))) 0 }
     {
         let count = changes.len();

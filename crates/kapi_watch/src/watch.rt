@@ -1,7 +1,7 @@
 //! Watches of a store's changes.
 ghost use Rattle.std.specs.Prelude.{◌≡◌, true, false, List, IfOk, None, map, option_map, unwrap_or};
 ghost use Rattle.kapi_store.specs.Stored.{stored_tree};
-ghost use Rattle.kapi_text.specs.Gives.{Gives};
+ghost use Rattle.kapi_text.specs.ResultIs.{ResultIs};
 ghost use Rattle.kapi_store.specs.Plain.{Plain, PlainChange, RefinesPlain, changes_after, plain_of};
 ghost use Rattle.kapi_watch.specs.Shown.{event_of};
 ghost use Rattle.kapi_watch.specs.Private.Looked.{looked, first_in, shown_in};
@@ -9,7 +9,7 @@ ghost use Rattle.kapi_watch.specs.declared.event.Event.TheVariants as EventValue
 
 use crate::error::WatchError;
 use crate::event::Event;
-use crate::scope::{Found, Scope};
+use crate::scope::{ShownChange, WatchScope};
 use kapi_model::{ResourceRow, Selector};
 use kapi_store::{Listed, Shared, Store, TooOld};
 use kapi_text::{Memory, Sequence};
@@ -18,7 +18,7 @@ use std::alloc::Global;
 /// A watch of a store: which objects it selects, which ones it shows first, and its place.
 #[derive(Drop)]
 pub struct Watch {
-    scope: Scope,
+    scope: WatchScope,
     first: Sequence<Shared>,
     /// How many of the first objects were shown.
     told: usize,
@@ -54,7 +54,7 @@ fn objects_of(alloc: Global, listed: &[Listed<'_>]) -> Result<Sequence<Shared>, 
 }
 
 /// The event of what was found; if changes are gone, the end of the watch.
-fn event_in<'a>(found: &Result<Option<Found<'a>>, TooOld>) -> Option<Event<'a>>
+fn event_in<'a>(found: &Result<Option<ShownChange<'a>>, TooOld>) -> Option<Event<'a>>
     ensures { option_map event_of result ≡ shown_in (looked found.now) }
 {
     match found {
@@ -84,12 +84,12 @@ impl Watch {
         name: &str,
         revision: Option<u64>,
     ) -> Result<Watch, WatchError>
-        ensures gives { Gives fault_of watch_data result (started (plain_of store.now) (record { row = resource.now; namespace = namespace.now; selector = selector.now; name = name.now }) (unwrap_or revision 0)) }
+        ensures gives { ResultIs fault_of watch_data result (started (plain_of store.now) (record { row = resource.now; namespace = namespace.now; selector = selector.now; name = name.now }) (unwrap_or revision 0)) }
         ensures fresh { IfOk result (IsFresh (plain_of store.now)) }
     {
         let revision = revision.unwrap_or(0);
         Watch::check(store, revision)?;
-        let scope = Scope::new(alloc, resource, namespace, selector, name)?;
+        let scope = WatchScope::new(alloc, resource, namespace, selector, name)?;
         Ok(Watch::begin(alloc, store, scope, revision)?)
     }
 
@@ -98,7 +98,7 @@ impl Watch {
     /// nothing.
     #[tactic(auto, unfolding(crate::specs::Watches::startable))]
     pub fn check(store: &Store, revision: u64) -> Result<(), WatchError>
-        ensures { Gives fault_of (λ u. u) result (startable (plain_of store.now) revision) }
+        ensures { ResultIs fault_of (λ u. u) result (startable (plain_of store.now) revision) }
     {
         if revision == 0 {
             return Ok(());
@@ -114,7 +114,12 @@ impl Watch {
 
     /// The watch from a revision on that `check` lets pass.
     #[tactic(auto, unfolding(crate::specs::Watches::watch_from))]
-    pub fn begin(alloc: Global, store: &Store, scope: Scope, revision: u64) -> Result<Watch, Memory>
+    pub fn begin(
+        alloc: Global,
+        store: &Store,
+        scope: WatchScope,
+        revision: u64,
+    ) -> Result<Watch, Memory>
         requires { startable (plain_of store.now) revision ≡ Ok tt }
         ensures gives { IfOk result (λ r. watch_data r ≡ watch_from (plain_of store.now) scope revision) }
         ensures fresh { IfOk result (IsFresh (plain_of store.now)) }
@@ -127,7 +132,7 @@ impl Watch {
     }
 
     /// A watch of what is listed now, and of each change after it.
-    fn from_now(alloc: Global, store: &Store, scope: Scope) -> Result<Watch, Memory>
+    fn from_now(alloc: Global, store: &Store, scope: WatchScope) -> Result<Watch, Memory>
         ensures gives { IfOk result (λ r. watch_data r ≡ started_now (plain_of store.now) scope) }
         ensures told { IfOk result (λ r. r.told ≡ 0) }
         ensures runs { IfOk result (λ r. r.stopped ≡ false) }
@@ -145,7 +150,7 @@ impl Watch {
     }
 
     /// A watch of each change after a revision.
-    fn from_revision(alloc: Global, scope: Scope, revision: u64) -> Watch
+    fn from_revision(alloc: Global, scope: WatchScope, revision: u64) -> Watch
         ensures gives { watch_data result ≡ started_at scope revision }
         ensures told { result.told ≡ 0 }
         ensures runs { result.stopped ≡ false }
@@ -160,7 +165,7 @@ impl Watch {
     }
 
     /// The scope of the watch.
-    pub fn scope(&self) -> &Scope
+    pub fn scope(&self) -> &WatchScope
         ensures { result.now ≡ self.now.scope }
     {
         &self.scope
@@ -226,7 +231,7 @@ impl Watch {
     }
 
     /// What the changes after the position show first; refused if some of them may be kept no longer.
-    fn look<'a>(&self, store: &'a Store) -> Result<Option<Found<'a>>, TooOld>
+    fn look<'a>(&self, store: &'a Store) -> Result<Option<ShownChange<'a>>, TooOld>
         ensures { (history : List PlainChange) (s : Plain) → RefinesPlain store.now history s
             → looked result ≡ first_in self.now.scope (changes_after history s self.now.position) }
     {
@@ -235,7 +240,7 @@ impl Watch {
     }
 
     /// The revision of the watch's place when it has shown what was found.
-    fn position_past(&self, store: &Store, found: &Result<Option<Found<'_>>, TooOld>) -> u64
+    fn position_past(&self, store: &Store, found: &Result<Option<ShownChange<'_>>, TooOld>) -> u64
         ensures { result ≡ position_after (plain_of store.now) self.now.position (looked found.now) }
     {
         match found {

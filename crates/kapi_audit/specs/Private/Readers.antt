@@ -1,6 +1,6 @@
 -- The readers of an audit.
 use Rattle.std.specs.Prelude.{◌≡◌, ℕ, ◌+◌, List, [], ◌∷◌}
-use Rattle.kapi_desk.specs.Boards.{Chair}
+use Rattle.kapi_publishing.specs.Boards.{Chair}
 use Rattle.kapi_audit.specs.declared.reader.Reader.{Reader}
 
 -- the numbers of the readers go on from n, and each sits in such a seat

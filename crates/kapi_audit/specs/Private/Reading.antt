@@ -1,7 +1,7 @@
 -- How far a client's lines were answered.
 use Rattle.std.specs.Prelude.{◌≡◌, ◌==◌, false, All, ℕ, List, ◌++◌, Option}
 use Rattle.std.specs.Io.KnownBytes.{Appends}
-use Rattle.kapi_desk.specs.Boards.{Chair}
+use Rattle.kapi_publishing.specs.Boards.{Chair}
 use Rattle.kapi_model.specs.declared.row.ResourceRow.{ResourceRow}
 use Rattle.kapi_script.specs.Scripts.{lines}
 use Rattle.kapi_audit.specs.Reports.{AreReported}

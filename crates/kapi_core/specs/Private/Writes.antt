@@ -5,15 +5,15 @@ use Rattle.kapi_aggregation.specs.Marks.{Covers, CoversAsMuch, Tracked}
 use Rattle.kapi_aggregation.specs.Rewriting.{rewriting}
 use Rattle.kapi_aggregation.specs.Roles.{roles_in}
 use Rattle.kapi_aggregation.specs.declared.turn.Turn.{Turn}
-use Rattle.kapi_text.specs.Gives.{Fails}
-use Rattle.kapi_answer.specs.Load.{fault_told, loads}
+use Rattle.kapi_text.specs.ResultIs.{Fails}
+use Rattle.kapi_answer.specs.Load.{model_of_fault, loads}
 use Rattle.kapi_answer.specs.declared.loading.LoadError.{LoadError}
 use Rattle.kapi_policy.specs.declared.change.PolicyChange.{PolicyChange}
 use Rattle.kapi_policy.specs.Objects.{PolicyObjects}
 use Rattle.kapi_store.specs.Plain.{Plain, PlainChange, RefinesPlain, plain_of, written}
 use Rattle.kapi_store.specs.Faults.{StoreFault}
 use Rattle.kapi_store.specs.State.{Same, State}
-use Rattle.kapi_guard.specs.Reading.{policy_changes, policy_objects}
+use Rattle.kapi_escalation.specs.Reading.{policy_changes, policy_objects}
 use Rattle.kapi_core.specs.declared.event.Turned.{Turned}
 
 -- if the old store and policy refine some objects, and the old marks cover their cluster roles, the new ones refine and
@@ -26,7 +26,7 @@ Writes s o ms t u ns changes = (cs : List PlainChange) (p : Plain) → RefinesPl
 abbrev pub LoadsInto : State → PolicyObjects → Tracked → State → PolicyObjects → Tracked → List ℕ → Result (List PolicyChange) LoadError → Type 0
 LoadsInto s o ms t u ns text (Ok made) =
     (changes : List PlainChange) × (loads (plain_of s) text ≡ Ok changes) × (made ≡ policy_changes changes) × Writes s o ms t u ns changes
-LoadsInto s o ms t u ns text (Err e) = Fails (fault_told e) (loads (plain_of s) text) × Same s t × (u ≡ o) × CoversAsMuch ms ns
+LoadsInto s o ms t u ns text (Err e) = Fails (model_of_fault e) (loads (plain_of s) text) × Same s t × (u ≡ o) × CoversAsMuch ms ns
 
 -- what becomes of a store, a policy and the marks if a turn is made; if its write is refused nothing is changed
 abbrev pub TurnsInto : State → PolicyObjects → Tracked → State → PolicyObjects → Tracked → Turn → Result (Option Turned) AllocError → Type 0

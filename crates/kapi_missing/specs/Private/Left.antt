@@ -12,7 +12,7 @@ use Rattle.kapi_missing.specs.Private.Numbers.{has_bit, some_has}
 use Rattle.kapi_missing.specs.Private.Stoppers.{Item, Stopper, at, meets, names_item, word_in}
 use Rattle.kapi_missing.specs.declared.numbers.Numbers.{Numbers}
 use Rattle.kapi_missing.specs.declared.rows.List.TheVariants as of
-use Rattle.kapi_missing.specs.declared.rows.Part.{Part}
+use Rattle.kapi_missing.specs.declared.rows.ListEntry.{ListEntry}
 use Rattle.kapi_missing.specs.declared.tree.Class.{Class}
 use Rattle.kapi_missing.specs.declared.tree.Entry.{Entry}
 use Rattle.kapi_missing.specs.declared.tree.Level.{Level}
@@ -44,10 +44,10 @@ atoms_of (group ∷ resource ∷ verb ∷ name ∷ []) = on_resource group.text 
 atoms_of other = []
 
 -- the entry that is borrowed
-abbrev pub item : Part → Item
+abbrev pub item : ListEntry → Item
 item part = record { list = part.list; text = option_map (λ (t : Bor (List ℕ)). t.now) part.text }
 
-abbrev pub items_in : List Part → List Item
+abbrev pub items_in : List ListEntry → List Item
 items_in parts = map item parts
 
 -- the set has the numbers of the rules for which the test holds

@@ -1,6 +1,6 @@
 -- How a selector's tokens are gone through, one piece or value after another.
 use Rattle.std.specs.Prelude.{ℕ, ◌==◌, false, if◌then◌else◌, List, [], ◌∷◌, length, Option, Some, None, Result, Ok, Err}
-use Rattle.kapi_text.specs.Gives.{◌>>=◌}
+use Rattle.kapi_text.specs.ResultIs.{◌>>=◌}
 use Rattle.kapi_model.specs.SelectorText.{Fault, syntax, first_value, listed, pieces}
 use Rattle.kapi_model.specs.declared.selector_token.Token.{Token}
 use Rattle.kapi_model.specs.declared.selector_token.Token.TheVariants.{Close, Comma}

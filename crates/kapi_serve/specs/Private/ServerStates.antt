@@ -5,7 +5,7 @@ use Rattle.kapi_core.specs.Refines.{Makes, TakesIn}
 use Rattle.kapi_core.specs.Running.{Running}
 use Rattle.kapi_core.specs.declared.event.Answer.TheVariants as answer
 use Rattle.kapi_core.specs.declared.event.Event.TheVariants as event
-use Rattle.kapi_desk.specs.Boards.{Board}
+use Rattle.kapi_publishing.specs.Boards.{Board}
 use Rattle.kapi_http.specs.declared.inbox.FeedError.{FeedError}
 use Rattle.kapi_policy.specs.declared.change.PolicyChange.{PolicyChange}
 use Rattle.kapi_serve.specs.Acts.{ClientState}

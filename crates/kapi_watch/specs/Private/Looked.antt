@@ -2,18 +2,18 @@
 use Rattle.std.specs.Prelude.{ℕ, List, Option, None, Some, Result, Ok, Err, option_map, slice_get}
 use Rattle.kapi_store.specs.declared.error.TooOld.{TooOld}
 use Rattle.kapi_store.specs.Plain.{Plain, PlainChange}
-use Rattle.kapi_watch.specs.declared.scope.Found.{Found}
-use Rattle.kapi_watch.specs.declared.scope.Scope.{Scope}
+use Rattle.kapi_watch.specs.declared.scope.ShownChange.{ShownChange}
+use Rattle.kapi_watch.specs.declared.scope.WatchScope.{WatchScope}
 use Rattle.kapi_watch.specs.Shown.{Shown, Expired, found_of}
 use Rattle.kapi_watch.specs.Watches.{shown_all}
 
 -- what was found, as data
-abbrev pub looked : Result (Option Found) TooOld → Result (Option (ℕ × Shown)) (Unit {0})
+abbrev pub looked : Result (Option ShownChange) TooOld → Result (Option (ℕ × Shown)) (Unit {0})
 looked (Ok found) = Ok (option_map found_of found)
 looked (Err e) = Err tt
 
 -- what changes show first, if there are such
-abbrev pub first_in : Scope → Result (List PlainChange) (Unit {0}) → Result (Option (ℕ × Shown)) (Unit {0})
+abbrev pub first_in : WatchScope → Result (List PlainChange) (Unit {0}) → Result (Option (ℕ × Shown)) (Unit {0})
 first_in scope (Ok cs) = Ok (slice_get (shown_all scope cs) 0)
 first_in scope (Err e) = Err e
 

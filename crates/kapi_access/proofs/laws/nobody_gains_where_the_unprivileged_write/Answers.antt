@@ -1,4 +1,4 @@
-use Rattle.kapi_gains.proofs.Law.{nobody_gains}
+use Rattle.kapi_escalation_laws.proofs.Law.{nobody_gains}
 use Rattle.kapi_access.proofs.laws.nobody_gains_where_the_unprivileged_write.Goals as goal
 
 pub returns : goal.returns

@@ -1,5 +1,5 @@
 use Rattle.std.proofs.Common.{Option, subst, sym}
-use Rattle.kapi_text.specs.Gives.{Fails}
+use Rattle.kapi_text.specs.ResultIs.{Fails}
 use Rattle.kapi_reply.specs.declared.refusal.Refused.{Refused}
 use Rattle.kapi_store.specs.Faults.{fault_of}
 use Rattle.kapi_store.specs.Plain.{plain_of, removal}

@@ -3,7 +3,7 @@ use Rattle.serde_json.specs.Data.{Data}
 use Rattle.kapi_reply.specs.Refusals.{expired}
 use Rattle.kapi_reply.specs.Status.{status_of}
 use Rattle.kapi_store.specs.Plain.{window_start}
-use Rattle.kapi_watch.specs.declared.scope.Scope.{Scope}
+use Rattle.kapi_watch.specs.declared.scope.WatchScope.{WatchScope}
 use Rattle.kapi_answer.specs.Watch.{ending_of, expired_status}
 use Rattle.kapi_answer.specs.declared.watch.EventReply.{EventReply}
 use Rattle.kapi_answer.proofs.watch.expired_reply.Goals as goal
@@ -16,9 +16,9 @@ told_by group resource name asked begins =
 pub returns : goal.returns
 returns c = λ history s w stands is.
     let scope : c.scope-scope.result.now ≡ w.watch.scope = c.scope-scope.ensures ∙ sym is.0.scope in
-    let group = c.as_str.ensures ∙ ap (λ (x : Scope). x.row.group) scope in
-    let resource = c.as_str-2.ensures ∙ ap (λ (x : Scope). x.row.plural) scope in
-    let name = c.as_str-3.ensures ∙ ap (λ (x : Scope). x.name) scope in
+    let group = c.as_str.ensures ∙ ap (λ (x : WatchScope). x.row.group) scope in
+    let resource = c.as_str-2.ensures ∙ ap (λ (x : WatchScope). x.row.plural) scope in
+    let name = c.as_str-3.ensures ∙ ap (λ (x : WatchScope). x.name) scope in
     let asked = c.position.ensures history s w.watch is.0 in
     let begins = c.window_start.ensures ∙ ap window_start stands.plain in
     let d = told_by c.as_str.result.now c.as_str-2.result.now c.as_str-3.result.now c.position.result c.window_start.result in

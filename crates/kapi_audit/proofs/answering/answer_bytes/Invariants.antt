@@ -1,5 +1,5 @@
 use Rattle.std.proofs.Common.{ℕ, ◌++◌, List, Option, drop}
-use Rattle.kapi_desk.specs.Boards.{Chair}
+use Rattle.kapi_publishing.specs.Boards.{Chair}
 use Rattle.kapi_audit.specs.Private.Reading.{Reading}
 use Rattle.kapi_audit.proofs.answering.answer_bytes.Given as goal
 

@@ -1,7 +1,7 @@
 use Rattle.std.proofs.Common.{◌∙◌, ◌+◌, ◌-◌, ◌≡◌, length, map, rules, subst, sym}
 use Rattle.kapi_core.specs.Table.{access_reviews_row}
 use Rattle.kapi_audit.specs.Answers.{answer_of}
-use Rattle.kapi_desk.specs.Steps.{after}
+use Rattle.kapi_publishing.specs.Steps.{after}
 use Rattle.kapi_audit.specs.Private.Sharing.{AreShares}
 use Rattle.kapi_model.specs.declared.row.ResourceRow.{ResourceRow}
 use Rattle.kapi_audit.proofs.audit.answer_all.Goals as goal

@@ -1,5 +1,5 @@
 use Rattle.std.proofs.Common.{◌≡◌, ◌+◌, All, length}
-use Rattle.kapi_desk.specs.Boards.{fresh, informed}
+use Rattle.kapi_publishing.specs.Boards.{fresh, informed}
 use Rattle.kapi_audit.specs.Private.Readers.{AreReaders}
 use Rattle.kapi_audit.proofs.audit.told_readers.Given as goal
 

@@ -1,7 +1,7 @@
 use Rattle.std.proofs.Common.{◌∙◌, ap, arith, get_or}
-use Rattle.kapi_desk.specs.Boards.{Chair}
+use Rattle.kapi_publishing.specs.Boards.{Chair}
 use Rattle.kapi_audit.specs.Answers.{answer_of}
-use Rattle.kapi_desk.specs.Steps.{after}
+use Rattle.kapi_publishing.specs.Steps.{after}
 use Rattle.kapi_audit.proofs.Shared.{answered_at}
 use Rattle.kapi_audit.proofs.Shares.{no_line}
 use Rattle.kapi_audit.proofs.reader.answer_share.Goals as goal

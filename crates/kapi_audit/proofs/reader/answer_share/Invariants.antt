@@ -1,6 +1,6 @@
 use Rattle.std.proofs.Common.{◌≡◌}
 use Rattle.kapi_audit.specs.Answers.{answer_of}
-use Rattle.kapi_desk.specs.Steps.{after}
+use Rattle.kapi_publishing.specs.Steps.{after}
 use Rattle.kapi_audit.proofs.Shared.{Shared}
 use Rattle.kapi_audit.proofs.reader.answer_share.Given as goal
 

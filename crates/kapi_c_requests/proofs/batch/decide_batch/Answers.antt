@@ -1,6 +1,6 @@
 use Rattle.std.proofs.Common.{◌≡◌, ℕ, List, Result, Ok, refl, subst, sym}
-use Rattle.kapi_text.specs.Gives.{Fails}
-use Rattle.kapi_loading.specs.Faults.{FileFault, fault_told as start_told}
+use Rattle.kapi_text.specs.ResultIs.{Fails}
+use Rattle.kapi_loading.specs.Faults.{FileFault, model_of_fault as start_told}
 use Rattle.kapi_loading.specs.declared.fault.StartError.{StartError}
 use Rattle.kapi_loading.specs.declared.fault.StartError.TheVariants as start
 use Rattle.kapi_engine.specs.LoadedPolicies.{loaded_of}
@@ -9,11 +9,11 @@ use Rattle.kapi_c_requests.specs.declared.fault.CallFault.{CallFault}
 use Rattle.kapi_c_requests.specs.declared.fault.CallFault.TheVariants as fault
 use Rattle.kapi_c_requests.specs.declared.passed.CQuestion.{CQuestion}
 use Rattle.kapi_c_requests.specs.Batches.{BatchEnds, end_of, failed, line_after, numbers_of}
-use Rattle.kapi_c_requests.specs.Faults.{fault_told}
+use Rattle.kapi_c_requests.specs.Faults.{model_of_fault}
 use Rattle.kapi_c_requests.proofs.batch.decide_batch.Goals as goal
 
 failed_ends : (made : Result LoadedPolicy FileFault) (questions : List CQuestion) (loaded : LoadedPolicy) (e : CallFault) (decisions : List ℕ) (at : ℕ) → made ≡ Ok loaded
-    → Fails (fault_told e) (numbers_of loaded questions) → BatchEnds made questions decisions decisions at at (failed e)
+    → Fails (model_of_fault e) (numbers_of loaded questions) → BatchEnds made questions decisions decisions at at (failed e)
 failed_ends made questions loaded fault.Memory decisions at is fails = (refl, refl)
 failed_ends made questions loaded (fault.Line number) decisions at is fails = (loaded, is, fails, (refl, refl))
 failed_ends made questions loaded fault.Text decisions at is fails = (loaded, is, fails, (refl, refl))

@@ -1,5 +1,5 @@
 use Rattle.std.proofs.Common.{Ok, ap}
-use Rattle.kapi_text.specs.Gives.{◌>>=◌}
+use Rattle.kapi_text.specs.ResultIs.{◌>>=◌}
 use Rattle.kapi_commands.specs.Policies.{settled_file}
 use Rattle.kapi_commands.specs.declared.policies.Answered.{Answered}
 use Rattle.kapi_commands.proofs.Held.{handed_on}

@@ -1,4 +1,4 @@
-use Rattle.kapi_gains.proofs.Facts.{acting_hold_own}
+use Rattle.kapi_escalation_laws.proofs.Facts.{acting_hold_own}
 use Rattle.kapi_core.proofs.Gains.{between_holds, events_hold}
 use Rattle.kapi_core.proofs.laws.what_is_stored_stays_within.Goals as goal
 

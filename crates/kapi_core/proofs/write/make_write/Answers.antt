@@ -3,7 +3,7 @@ use Rattle.kapi_answer.specs.Responses.{changes_data}
 use Rattle.kapi_store.specs.Plain.{plain_change}
 use Rattle.kapi_store.specs.declared.ready.Ready.{Ready}
 use Rattle.kapi_policy.specs.Steps.{after_changes}
-use Rattle.kapi_guard.specs.Reading.{policy_changes}
+use Rattle.kapi_escalation.specs.Reading.{policy_changes}
 use Rattle.kapi_core.specs.Private.Writes.{Writes}
 use Rattle.kapi_core.proofs.Writes.{CoversWritten, nothing_writes, writes}
 use Rattle.kapi_core.proofs.write.make_write.Goals as goal

@@ -1,7 +1,7 @@
 use Rattle.std.proofs.Common.{arith, ◌∙◌, sym, ap, subst}
 use Rattle.std.proofs.lemmas.Bool.{eqb-true}
-use Rattle.kapi_text.specs.Gives.{Fails}
-use Rattle.kapi_loading.specs.Faults.{fault_told}
+use Rattle.kapi_text.specs.ResultIs.{Fails}
+use Rattle.kapi_loading.specs.Faults.{model_of_fault}
 use Rattle.kapi_engine.specs.LoadedPolicies.{loaded_of}
 use Rattle.kapi_engine.proofs.manifests.load_manifests.Goals as goal
 
@@ -20,6 +20,6 @@ returns-in-Err-Line c =
       c.in_ok-prepared.prepared,
       (c.in_ok-prepared.ensures.loads, omega (arith, faults, empty, ok)),
       c.in-Err-Line.number,
-      ap loaded_of (sym c.as_slice.ensures.value) ∙ subst (λ e. Fails (fault_told e) (loaded_of c.as_slice.result.now)) c.in-Err-Line.field-0-is c.in-Err-Line.ensures,
+      ap loaded_of (sym c.as_slice.ensures.value) ∙ subst (λ e. Fails (model_of_fault e) (loaded_of c.as_slice.result.now)) c.in-Err-Line.field-0-is c.in-Err-Line.ensures,
       c.origin_of.ensures,
     )

@@ -1,7 +1,7 @@
 use Rattle.std.proofs.Common.{Ok, ap, map, subst, ◌∙◌}
-use Rattle.kapi_text.specs.Gives.{Fails}
+use Rattle.kapi_text.specs.ResultIs.{Fails}
 use Rattle.kapi_lines.specs.Lines.{line_of}
-use Rattle.kapi_loading.specs.Faults.{fault_told}
+use Rattle.kapi_loading.specs.Faults.{model_of_fault}
 use Rattle.kapi_loading.specs.Loading.{Reaches, loaded, turned}
 use Rattle.kapi_loading.proofs.Loaded.{fault_kept, reach_fault, then_turned}
 use Rattle.kapi_loading.proofs.loading.load_file.Goals as goal
@@ -11,7 +11,7 @@ returns-in_err-load_lines g c = λ seat m stands follows.
     let same = ap (map line_of) c.as_slice.ensures.value ∙ c.in_ok-lines.ensures in
     reach_fault c.load_lines.new.core (g.S.Steps.Follows seat c.load_lines.new.steps) c.from_residual-in_err-load_lines.result c.in_err-load_lines.field-0.0 _ c.from_residual-in_err-load_lines.ensures.1
     (fault_kept _ _ (λ k. Ok (turned 64 k))
-    (subst (λ ls. Fails (fault_told c.in_err-load_lines.field-0.0) (loaded m ls)) same (c.in_err-load_lines.ensures seat m stands follows)))
+    (subst (λ ls. Fails (model_of_fault c.in_err-load_lines.field-0.0) (loaded m ls)) same (c.in_err-load_lines.ensures seat m stands follows)))
 
 pub returns : goal.returns
 returns g c = λ seat m stands follows.

@@ -1,6 +1,6 @@
 use Rattle.kapi_core.specs.Machine.{Machine, policy_of}
 use Rattle.kapi_core.specs.Refines.{Refines}
-use Rattle.kapi_desk.specs.Boards.{Chair}
+use Rattle.kapi_publishing.specs.Boards.{Chair}
 use Rattle.kapi_loading.proofs.Loaded.{LoadedUpTo}
 use Rattle.kapi_loading.proofs.loading.load_lines.Given as goal
 

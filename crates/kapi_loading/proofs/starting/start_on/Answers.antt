@@ -1,6 +1,6 @@
 use Rattle.std.proofs.Common.{ap, sym, ◌∙◌}
 use Rattle.std.specs.Prelude.{replicate}
-use Rattle.kapi_desk.specs.Boards.{fresh}
+use Rattle.kapi_publishing.specs.Boards.{fresh}
 use Rattle.kapi_loading.proofs.Begun.{published_first}
 use Rattle.kapi_loading.proofs.starting.start_on.Goals as goal
 

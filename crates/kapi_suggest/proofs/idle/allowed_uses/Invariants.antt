@@ -1,6 +1,6 @@
 use Rattle.std.proofs.Common.{◌≡◌}
 use Rattle.std.specs.List.{filter}
-use Rattle.kapi_gains.specs.Access.{may}
+use Rattle.kapi_escalation_laws.specs.Access.{may}
 use Rattle.kapi_suggest.proofs.idle.allowed_uses.Given as goal
 
 abbrev pub invariant-loop-used : goal.invariant-loop-used

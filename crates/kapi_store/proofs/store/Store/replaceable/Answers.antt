@@ -2,7 +2,7 @@ use Rattle.std.proofs.Common.{◌≡◌, Option, Some, None, option_copied, opti
 use Rattle.serde_json.specs.Data.{Data}
 use Rattle.std.specs.Map.{lookup}
 use Rattle.std.proofs.lemmas.Result.{IfOk-weaker}
-use Rattle.kapi_text.specs.Gives.{Gives}
+use Rattle.kapi_text.specs.ResultIs.{ResultIs}
 use Rattle.kapi_store.specs.Stored.{stored_tree}
 use Rattle.kapi_store.specs.Faults.{fault_of}
 use Rattle.kapi_store.specs.Keys.{is_key}
@@ -19,7 +19,7 @@ returns-in-Some-clause-gives c =
     let there : Some (stored_tree c.in-Some.object.now) ≡ lookup (is_key c.args.key.now) (trees (objects c.args.self.now))
     = ap (option_map stored_tree) (sym (ap option_copied c.in-Some.is) ∙ c.find.ensures)
     ∙ ap (λ os. option_map stored_tree (lookup (is_key c.args.key.now) os)) (sym (seen_live c.self.inside.hidden c.self.inside.slots.entries) ∙ ap objects now) ∙ sym (lookup_trees c.args.key.now (objects c.args.self.now)) in
-    let P : Option Data → Type 0 = λ o. Gives fault_of (λ x. stored_tree x.now) c.admitted.result (admitted o c.args.given.now) in
+    let P : Option Data → Type 0 = λ o. ResultIs fault_of (λ x. stored_tree x.now) c.admitted.result (admitted o c.args.given.now) in
     subst P there c.admitted.ensures.gives
 
 pub returns-in-None-clause-gives : goal.returns-in-None-clause-gives

@@ -1,5 +1,0 @@
-use Rattle.kapi_gains.proofs.Law.{nobody_gains}
-use Rattle.kapi_gains.proofs.laws.nobody_gains_what_no_actor_held.Goals as goal
-
-pub returns : goal.returns
-returns c = nobody_gains

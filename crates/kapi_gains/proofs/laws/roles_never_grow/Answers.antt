@@ -1,5 +1,0 @@
-use Rattle.kapi_gains.proofs.Law.{roles_never_grow}
-use Rattle.kapi_gains.proofs.laws.roles_never_grow.Goals as goal
-
-pub returns : goal.returns
-returns c = roles_never_grow

@@ -1,5 +1,0 @@
-use Rattle.kapi_gains.proofs.Law.{turns_stay_within}
-use Rattle.kapi_gains.proofs.laws.what_a_turn_writes_stays_within.Goals as goal
-
-pub returns : goal.returns
-returns c = turns_stay_within

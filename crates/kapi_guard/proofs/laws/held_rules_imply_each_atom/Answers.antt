@@ -1,5 +1,0 @@
-use Rattle.kapi_guard.proofs.Implied.{none_is_missing}
-use Rattle.kapi_guard.proofs.laws.held_rules_imply_each_atom.Goals as goal
-
-pub returns : goal.returns
-returns c = none_is_missing

@@ -1,5 +1,0 @@
-use Rattle.kapi_guard.proofs.Grants.{held_in_namespaces}
-use Rattle.kapi_guard.proofs.laws.rules_held_cluster_wide_are_held_in_namespaces.Goals as goal
-
-pub returns : goal.returns
-returns c = held_in_namespaces

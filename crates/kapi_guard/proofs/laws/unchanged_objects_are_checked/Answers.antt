@@ -1,5 +1,0 @@
-use Rattle.kapi_guard.proofs.Grants.{checked_like_new}
-use Rattle.kapi_guard.proofs.laws.unchanged_objects_are_checked.Goals as goal
-
-pub returns : goal.returns
-returns c = checked_like_new

@@ -1,5 +1,0 @@
-use Rattle.kapi_guard.proofs.Admitted.{admitted_is}
-use Rattle.kapi_guard.proofs.stored_laws.what_is_admitted_is_of_its_row.Goals as goal
-
-pub returns : goal.returns
-returns c = admitted_is

@@ -1,8 +1,0 @@
-use Rattle.std.proofs.Common.{◌≡◌, drop, map}
-use Rattle.std.specs.List.{list_any}
-use Rattle.kapi_manifests.specs.Files.{data_of}
-use Rattle.kapi_manifests.specs.Standing.{is_same, object_told}
-use Rattle.kapi_manifests.proofs.standing.is_among.Given as goal
-
-abbrev pub invariant-loop-object : goal.invariant-loop-object
-invariant-loop-object l = list_any (is_same (object_told l.one)) (map data_of (drop l.object-index l.objects)) ≡ list_any (is_same (object_told l.one)) (map data_of l.objects)
