@@ -5,7 +5,7 @@ use Rattle.serde_json.specs.Data.{Data, no_members, object}
 use Rattle.kapi_text.specs.ResultIs.{◌>>=◌}
 use Rattle.kapi_object.specs.Tree.{in_metadata}
 use Rattle.kapi_escalation.specs.Impersonation.{denied, effective, impersonated, is_denied, questions}
-use Rattle.kapi_escalation.specs.declared.questions.Question.{Question}
+use Rattle.kapi_escalation.specs.declared.question.Question.{Question}
 use Rattle.kapi_http.specs.declared.message.HttpFault.{HttpFault}
 use Rattle.kapi_http.specs.declared.message.HttpRequest.{HttpRequest}
 use Rattle.kapi_http.specs.declared.message.StatusCode.TheVariants as status

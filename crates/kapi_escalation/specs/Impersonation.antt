@@ -16,7 +16,7 @@ use Rattle.kapi_request_info.specs.Selector.{behind}
 use Rattle.kapi_request_info.specs.declared.impersonated.Impersonation.{Impersonation}
 use Rattle.kapi_escalation.specs.declared.impersonation_refused.ImpersonationRefused.{ImpersonationRefused}
 use Rattle.kapi_escalation.specs.declared.impersonation_refused.ImpersonationRefused.TheVariants as refused
-use Rattle.kapi_escalation.specs.declared.questions.Question.{Question}
+use Rattle.kapi_escalation.specs.declared.question.Question.{Question}
 
 -- ---- service accounts
 

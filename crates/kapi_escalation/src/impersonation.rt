@@ -5,7 +5,7 @@ ghost use Rattle.kapi_escalation.specs.Impersonation as acting;
 ghost use Rattle.kapi_escalation.specs.Impersonation.{denied_in, impersonated};
 
 use crate::impersonation_refused::ImpersonationRefused;
-use crate::questions::{denied, questions};
+use crate::question::{denied, questions};
 use crate::service_account::service_account;
 use kapi_model::Identity;
 use kapi_policy::Policy;

@@ -3,7 +3,7 @@ use Rattle.std.proofs.Common.{◌≡◌, ◌==◌, inl, inr, ℕ, List, ◌∷�
 use Rattle.std.specs.List.{filter}
 use Rattle.std.proofs.Math.Dec.{eqb-suc-zero}
 use Rattle.kapi_escalation.specs.Impersonation.{MakesAs, asked_of, denied, effective, group_question, impersonated, is_denied, questions, service_account, user_question}
-use Rattle.kapi_escalation.specs.declared.questions.Question.{Question}
+use Rattle.kapi_escalation.specs.declared.question.Question.{Question}
 use Rattle.kapi_model.specs.declared.subject.ServiceAccount.{ServiceAccount}
 use Rattle.kapi_policy.specs.Objects.{PolicyObjects}
 use Rattle.kapi_model.specs.declared.identity.Identity.{Identity}
