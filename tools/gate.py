@@ -64,14 +64,20 @@ def started(times, name, *words):
     return running
 
 
-def edits(times, which):
-    return started(times, "edits", sys.executable, "-m", "checks", "/bin/true", "edits", which)
+def beside(times):
+    """What runs beside the last two crates: the edits of each gate, and then the C library, if there is a compiler for it."""
+    words = f"'{sys.executable}' -m checks /bin/true edits always"
+    if shutil.which("cc") and shutil.which("objcopy"):
+        words += " && sh tools/library.sh out/library"
+    else:
+        print("The C library is left out: cc or objcopy is not there.", flush=True)
+    return started(times, "edits and C library", "sh", "-c", words)
 
 
 def prove(times):
-    """Runs `rt ci` on all crates; its status, its last line, and the edits of each gate, which run beside the last two crates."""
+    """Runs `rt ci` on all crates; its status, its last line, and what runs beside the last two crates."""
     jobs = lanes()
-    progress, last, always = Progress(jobs), "", None
+    progress, last, other = Progress(jobs), "", None
     print(f"Proves {len(progress.left)} crates, {jobs} at a time: about {5 + int(1.1 * progress.whole / jobs / 60)} minutes from nothing.", flush=True)
     running = subprocess.Popen(["rt", "ci"], cwd=ROOT, env={**os.environ, "RT_JOBS": str(jobs)}, stdout=subprocess.PIPE, stderr=subprocess.STDOUT, text=True, errors="replace")
     times.begin(running.pid)
@@ -81,20 +87,16 @@ def prove(times):
         crate = PROVED.match(line)
         if crate and crate[1] in progress.left:
             print(f"  {progress.done(crate[1])}", flush=True)
-            always = always or (edits(times, "always") if len(progress.left) <= 2 else None)
+            other = other or (beside(times) if len(progress.left) <= 2 else None)
         last = line.strip() or last
-    return running.wait(), last, always
+    return running.wait(), last, other
 
 
-def rest(times, program, always):
-    """What the proved program stands for besides: the C library, drawn edits beside it, and the quick checks."""
-    running = [always or edits(times, "always"), edits(times, "2")]
-    if shutil.which("cc") and shutil.which("objcopy"):
-        print("C library, and edits that the prover must refuse: 4 min or so.", flush=True)
-        running.append(started(times, "C library", "sh", "tools/library.sh", "out/library"))
-    else:
-        print("The C library is left out: cc or objcopy is not there. Edits that the prover must refuse: 4 min or so.", flush=True)
-    status = max([it.wait() for it in running], key=bool)
+def rest(times, program, other):
+    """What is left when all is proved: two edits that are drawn, and the quick checks."""
+    print("Edits that the prover must refuse, and what is left of the C library: 1 to 4 min.", flush=True)
+    drawn = started(times, "edits", sys.executable, "-m", "checks", "/bin/true", "edits", "2")
+    status = (other or beside(times)).wait() or drawn.wait()
     print("Quick checks: 1 min or so.", flush=True)
     return status or started(times, "quick checks", sys.executable, "-m", "checks", program).wait()
 
@@ -102,11 +104,11 @@ def rest(times, program, always):
 def main():
     times, program = Times(), "crates/kapi/out/kapi"
     (ROOT / "out").mkdir(exist_ok=True)
-    status, last, always = prove(times)
+    status, last, other = prove(times)
     if not status:
         sources = subprocess.run(["sh", "tools/sources.sh"], cwd=ROOT, stdout=subprocess.PIPE, check=True).stdout
         (ROOT / "crates/kapi/out/proved").write_bytes(sources)
-        status = rest(times, program, always)
+        status = rest(times, program, other)
     (ROOT / "out/times").write_text("\n".join(times.table()) + "\n")
     print(f"What each crate took is in out/times.\n{last}", flush=True)
     return status
