@@ -15,3 +15,4 @@ pub mod Connections
 pub mod Standing
 pub mod Tending
 pub mod Picking
+pub mod Quiet

@@ -52,6 +52,8 @@ pub(crate) enum Flushed {
 #[derive(Drop)]
 pub struct Client {
     pub(crate) slot: usize,
+    /// The number of the user that the ports gave the slot.
+    pub(crate) user: usize,
     pub(crate) id: ConnId,
     pub(crate) phase: Phase,
     /// Bytes came since the machine last found no request.

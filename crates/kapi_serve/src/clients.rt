@@ -15,7 +15,7 @@ ghost use Rattle.kapi_serve.specs.declared.progress.Progress.TheVariants as prog
 
 use crate::client::{Client, Phase};
 use crate::marks::{MARKS, marks_of};
-use crate::pending::Pending;
+use crate::pending::{Pending, Unsent};
 use crate::port::{PortFault, Ports};
 use crate::progress::Progress;
 use crate::publishing::Publishing;
@@ -79,6 +79,7 @@ pub(crate) struct Clients {
     tried: u64,
     /// The list positions at which connections were last found, by their slots modulo `PLACES`.
     places: [usize; PLACES],
+    pub(crate) unsent: Unsent,
 }
 
 /// The result of a read.
@@ -103,6 +104,7 @@ impl Clients {
             roused: 0,
             tried: 0,
             places: [0; PLACES],
+            unsent: Unsent::new(),
         }
     }
 
@@ -150,13 +152,14 @@ impl Clients {
         if self.list.reserve(1).is_err() {
             return ports.end(slot);
         }
+        let user = ports.user(slot);
         match core.open(identity) {
-            Ok(id) => self.add(slot, id),
+            Ok(id) => self.add(slot, user, id),
             Err(_refused) => ports.end(slot),
         }
     }
 
-    fn add(&mut self, slot: usize, id: ConnId)
+    fn add(&mut self, slot: usize, user: usize, id: ConnId)
         requires { vec_len self.old.list < vec_capacity self.old.list }
         ensures seats { seats_of self.new.list.items ≡ seats_of self.old.list.items ++ record { slot = slot; conn = id; owed = [] } ∷ [] }
         ensures fresh { (client : AClient) × (self.new.list.items ≡ self.old.list.items ++ client ∷ []) × (client.id ≡ id) × IsNew client }
@@ -164,6 +167,7 @@ impl Clients {
     {
         self.list.push_reserved(Client {
             slot,
+            user,
             id,
             phase: Phase::Open,
             fed: false,
@@ -226,6 +230,7 @@ impl Clients {
         while let Some(index) = self.place(slot) {
             let client = self.list.remove(index);
             self.awake.lower();
+            self.unsent.settle(client.user, client.pending.count(), 0);
             core.close(client.id);
         }
     }
@@ -242,6 +247,7 @@ impl Clients {
     {
         let client = self.list.remove(index);
         self.awake.lower();
+        self.unsent.settle(client.user, client.pending.count(), 0);
         core.close(client.id);
         ports.end(client.slot);
     }
@@ -415,7 +421,11 @@ impl Clients {
         ensures awake { self.new.awake ≡ self.old.awake }
         ensures count { length self.new.list.items ≡ length self.old.list.items }
     {
-        self.list[index].pass(rt, core, desk, publishing);
+        let client = &mut self.list[index];
+        let before = client.pending.count();
+        client.pass(rt, core, desk, publishing);
+        self.unsent
+            .settle(client.user, before, client.pending.count());
     }
 
     /// Wakes each connection whose watch may be concerned by a change since the last waking.

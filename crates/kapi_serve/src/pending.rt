@@ -1,4 +1,4 @@
-ghost use Rattle.std.specs.Prelude.{◌≡◌, ◌≤◌, ◌<◌, ◌++◌, [], drop, take, length, nat_le, true, ◌↔◌, OnOk};
+ghost use Rattle.std.specs.Prelude.{◌≡◌, ◌≤◌, ◌<◌, ◌%◌, ◌++◌, [], drop, take, get_or, length, nat_le, nat_lt, true, ◌↔◌, OnOk};
 ghost use Rattle.std.specs.VecDeque.{deque_len, deque_capacity};
 ghost use Rattle.kapi_serve.specs.Private.Pieces.{IsCounted, IsSent, owed};
 
@@ -8,6 +8,37 @@ use std::collections::VecDeque;
 
 /// The number of pending bytes at which a connection is neither served nor pumped.
 const PENDING_LIMIT: usize = 1_048_576;
+
+/// The number of bytes that are yet to be sent to a user, above which the user's requests wait.
+const MOST_UNSENT: usize = 33_554_432;
+
+/// The number of users whose bytes are counted apart: as many as there are listeners at most.
+const USERS: usize = 16;
+
+/// The number of bytes that are yet to be sent to each user, on all connections together.
+#[derive(Drop)]
+pub(crate) struct Unsent {
+    bytes: [usize; USERS],
+}
+
+impl Unsent {
+    pub(crate) fn new() -> Unsent {
+        Unsent { bytes: [0; USERS] }
+    }
+
+    /// Notes how many bytes were pending on a connection of a user, and how many are now.
+    pub(crate) fn settle(&mut self, user: usize, before: usize, now: usize) {
+        let bytes = self.bytes[user % USERS].saturating_sub(before);
+        self.bytes[user % USERS] = bytes.saturating_add(now);
+    }
+
+    /// Whether so much is yet to be sent to a user that the user's requests wait.
+    pub(crate) fn is_much(&self, user: usize) -> bool
+        ensures { result ≡ nat_lt 33554432 (get_or self.now.bytes (user % 16) 0) }
+    {
+        self.bytes[user % USERS] > MOST_UNSENT
+    }
+}
 
 /// The bytes that are yet to be sent on a connection, in their order.
 #[derive(Drop)]
@@ -39,6 +70,13 @@ impl Pending {
         ensures { result ≡ nat_le 1048576 self.now.count }
     {
         self.count >= PENDING_LIMIT
+    }
+
+    /// The number of pending bytes.
+    pub(crate) fn count(&self) -> usize
+        ensures { result ≡ self.now.count }
+    {
+        self.count
     }
 
     /// Makes room for the bytes that are pushed next.

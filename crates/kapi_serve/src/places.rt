@@ -1,8 +1,8 @@
-//! Who is let in if all places are taken, who makes room, and whose turn is next.
+//! Who is let in if all places are taken, who makes room, and which client is due next.
 ghost use Rattle.std.specs.Prelude.{◌≡◌, ◌<◌, IfSome, None, length, nat_lt, true};
 ghost use Rattle.std.specs.List.{HoldsAt, list_any};
 ghost use Rattle.kapi_serve.specs.Places.{IsBusiest, IsDisplaced, IsIdlest, count_by, is_by, is_leaving as is_leaving_at, last_used, taken as taken_of};
-ghost use Rattle.kapi_serve.specs.Rounds.{IsFirstDue, IsIdle, IsNextTurn, NoneIsDue};
+ghost use Rattle.kapi_serve.specs.Rounds.{IsFirstDue, NoneIsDue};
 
 use crate::slots::is_ready_at;
 use crate::stream::Stream;
@@ -114,21 +114,14 @@ fn used(place: &Option<Stream>) -> u64
     }
 }
 
-/// The slot of the client of a listener that has the next turn: the first with an event from a slot on, else the first
-/// of all.
-pub(crate) fn next_turn(slots: &[Option<Stream>], listener: usize, from: usize) -> Option<usize>
-    ensures found { IfSome result (λ slot. (slot < length slots.now) × IsNextTurn listener slots.now from slot) }
-    ensures none { result ≡ None → IsIdle listener slots.now }
-{
-    match first_due(slots, listener, from, slots.len()) {
-        Some(slot) => Some(slot),
-        None => first_due(slots, listener, 0, from),
-    }
-}
-
 /// The first slot from one on, and before another, whose client came by a listener and has an event.
-fn first_due(slots: &[Option<Stream>], listener: usize, from: usize, to: usize) -> Option<usize>
-    ensures found { IfSome result (λ slot. (slot < length slots.now) × IsFirstDue listener slots.now from slot) }
+pub(crate) fn first_due(
+    slots: &[Option<Stream>],
+    listener: usize,
+    from: usize,
+    to: usize,
+) -> Option<usize>
+    ensures found { IfSome result (λ slot. (slot < length slots.now) × (slot < to) × IsFirstDue listener slots.now from slot) }
     ensures none { result ≡ None → NoneIsDue listener slots.now from to }
 {
     for slot in from..to.min(slots.len()) {

@@ -78,6 +78,11 @@ pub trait Ports {
         Ok(())
     }
 
+    /// The number of the user of a slot.
+    fn user(&self, _slot: usize) -> usize {
+        0
+    }
+
     /// Ends a slot.
     fn end(&mut self, slot: usize)
         ensures told { Adds (report self.old) (report self.new) (entry.Ended slot ∷ []) };

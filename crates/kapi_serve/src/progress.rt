@@ -8,7 +8,7 @@ pub(crate) enum Progress {
     Made,
     /// Nothing was to be done.
     Still,
-    /// Nothing was done, and something may be left, since there was no memory for it.
+    /// Nothing was done, and something may be left: there was no memory for it, or too much is yet to be sent.
     Starved,
 }
 

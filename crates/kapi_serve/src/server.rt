@@ -8,6 +8,7 @@ ghost use Rattle.kapi_serve.specs.declared.progress.Progress.TheVariants as prog
 
 use crate::client::{Client, Flushed};
 use crate::clients::{Clients, Pulled};
+use crate::pending::Unsent;
 use crate::port::{PortEvent, Ports};
 use crate::progress::Progress;
 use crate::publishing::Publishing;
@@ -186,12 +187,15 @@ impl Server {
             return Progress::Still;
         }
         let client = &mut self.clients.list[index];
+        let before = client.pending.count();
         let flushed = client.flush(rt, ports);
+        let unsent = &mut self.clients.unsent;
+        unsent.settle(client.user, before, client.pending.count());
         if client.is_over(flushed) {
             self.clients.end(core, ports, index);
             return Progress::Made;
         }
-        let answered = answer(rt, core, desk, &mut self.publishing, client);
+        let answered = answer(rt, core, desk, &mut self.publishing, client, unsent);
         match flushed {
             Flushed::Sent => Progress::Made,
             Flushed::Nothing => answered,
@@ -200,20 +204,26 @@ impl Server {
     }
 }
 
-/// Serves and pumps a connection, and makes the turns that follow.
+/// Serves and pumps a connection, and makes the turns that follow. If too much is yet to be sent to its user, it waits.
 fn answer<R: Wait, P: Policy + Drop>(
     rt: &R,
     core: &mut Core<P>,
     desk: &mut Desk,
     publishing: &mut Publishing,
     client: &mut Client,
+    unsent: &mut Unsent,
 ) -> Progress
     ensures goes { AdvancesFor (stage core.old desk.old publishing.old) (stage core.new desk.new publishing.new) client.old client.new }
     ensures tends { Tends core.old core.new client.old client.new }
     ensures still { result ≡ progress.Still → Waits client.old client.new × IsServed client.new }
 {
+    if unsent.is_much(client.user) {
+        return Progress::Starved;
+    }
+    let before = client.pending.count();
     let served = client.serve(rt, core, desk, publishing);
     let shown = client.pump(rt, core, desk, publishing);
+    unsent.settle(client.user, before, client.pending.count());
     let turned = publishing.make_turns(rt, core, desk);
     served.and(shown).and(turned)
 }

@@ -8,7 +8,7 @@ ghost use Rattle.kapi_serve.specs.declared.port.PortEvent.{PortEvent as AnEvent}
 ghost use Rattle.kapi_serve.specs.declared.port.PortEvent.TheVariants as event;
 ghost use Rattle.kapi_model.specs.declared.identity.Identity.{Identity as AnIdentity};
 
-use crate::places::{count, displaced, is_some_leaving, next_turn, taken};
+use crate::places::{count, displaced, first_due, is_some_leaving, taken};
 use crate::port::PortEvent;
 use crate::stream::Stream;
 use kapi_core::OPEN_CONNECTIONS;
@@ -24,7 +24,8 @@ const MOST_OPEN: usize = 320;
 /// The number of listeners whose turns are remembered apart: as many as there are at most.
 const LISTENERS: usize = 16;
 
-/// The streams of clients by slot. In each round each listener has a turn, which goes to one of its clients.
+/// The streams of clients by slot. In each round each listener has a turn, which goes to one of its clients. It is
+/// looked for between the first and the last that may have an event, however many are open.
 #[derive(Drop)]
 pub(crate) struct Slots {
     streams: Vec<Option<Stream>>,
@@ -32,8 +33,14 @@ pub(crate) struct Slots {
     round: u64,
     /// The listeners from this one on have not had their turn in this round.
     turn: usize,
+    /// The slots before this one have no event.
+    start: usize,
+    /// Nor have those from this one on.
+    end: usize,
     /// The slot of each listener from which on its next turn is looked for.
     next: [usize; LISTENERS],
+    ghost before: { (i : ℕ) → i < start → i < length streams.items → HoldsAt (λ place. has_turn_next place ≡ false) streams.items i },
+    ghost beyond: { (i : ℕ) → end ≤ i → i < length streams.items → HoldsAt (λ place. has_turn_next place ≡ false) streams.items i },
 }
 
 impl Slots {
@@ -42,6 +49,8 @@ impl Slots {
             streams: Vec::new(alloc),
             round: 0,
             turn: 0,
+            start: 0,
+            end: 0,
             next: [0; LISTENERS],
         }
     }
@@ -87,8 +96,41 @@ impl Slots {
     pub(crate) fn begin(&mut self)
         ensures { self.new.turn ≡ 0 }
     {
+        self.narrow();
         self.round = self.round.saturating_add(1);
         self.turn = 0;
+    }
+
+    /// Leaves out the slots at both ends that have no event.
+    fn narrow(&mut self)
+        ensures same { self.new.streams ≡ self.old.streams }
+    {
+        let (mut start, mut end) = (self.start, self.end.min(self.streams.len()));
+        while start < end {
+            if !is_ready_at(&self.streams[start]) {
+                start += 1;
+            } else if !is_ready_at(&self.streams[end - 1]) {
+                end -= 1;
+            } else {
+                break;
+            }
+        }
+        self.start = if start < end {
+            start
+        } else {
+            self.streams.len()
+        };
+        self.end = if start < end { end } else { 0 };
+    }
+
+    /// Takes a slot in among those that may have an event.
+    fn cover(&mut self, slot: usize)
+        requires { slot < vec_len self.old.streams }
+        ensures within { (self.new.start ≤ slot) × (slot < self.new.end) }
+        ensures same { (self.new.streams ≡ self.old.streams) × (self.new.turn ≡ self.old.turn) }
+    {
+        self.start = self.start.min(slot);
+        self.end = self.end.max(slot + 1);
     }
 
     /// Notes the readiness that an event of a slot reports.
@@ -100,6 +142,7 @@ impl Slots {
         if slot >= self.streams.len() {
             return;
         }
+        self.cover(slot);
         if let Some(stream) = &mut self.streams[slot] {
             stream.note(event);
         }
@@ -132,17 +175,43 @@ impl Slots {
     {
         let listener = self.turn;
         self.turn += 1;
-        let from = self.next[listener % LISTENERS];
-        let slot = next_turn(self.streams.as_slice(), listener, from)?;
+        let slot = self.next_due(listener, self.next[listener % LISTENERS])?;
         self.next[listener % LISTENERS] = slot + 1;
         turn_at(&mut self.streams[slot], slot)
+    }
+
+    /// The slot of the client of a listener that has the next turn: the first with an event from a slot on, else the
+    /// first of all.
+    fn next_due(&self, listener: usize, from: usize) -> Option<usize>
+        ensures found { IfSome result (λ slot. (slot < vec_len self.now.streams) × IsNextTurn listener self.now.streams.items from slot) }
+        ensures within { IfSome result (λ slot. (self.now.start ≤ slot) × (slot < self.now.end)) }
+        ensures none { result ≡ None → IsIdle listener self.now.streams.items }
+    {
+        let streams = self.streams.as_slice();
+        match first_due(streams, listener, from.max(self.start), self.end) {
+            Some(slot) => Some(slot),
+            None => first_due(streams, listener, self.start, from.min(self.end)),
+        }
     }
 
     /// Whether a stream has an event for its next turn.
     pub(crate) fn is_some_ready(&self) -> bool
         ensures { result ≡ list_any has_turn_next self.now.streams.items }
     {
-        is_some_turn_next(self.streams.as_slice())
+        for slot in self.start..self.end.min(self.streams.len()) {
+            if is_ready_at(&self.streams[slot]) {
+                return true;
+            }
+        }
+        false
+    }
+
+    /// The listener by which the client of a slot came; 0 if there is none.
+    pub(crate) fn listener(&self, slot: usize) -> usize {
+        match self.streams.get(slot) {
+            Some(Some(stream)) => stream.listener,
+            _ => 0,
+        }
     }
 
     /// The number of clients that came by a listener.
@@ -180,6 +249,7 @@ impl Slots {
         ensures len { vec_len self.new.streams ≡ vec_len self.old.streams }
         ensures leaving { HoldsAt (λ place. is_some place ≡ true → HoldsAt (λ its. is_leaving its ≡ true) self.new.streams.items slot) self.old.streams.items slot }
     {
+        self.cover(slot);
         if let Some(stream) = &mut self.streams[slot] {
             stream.break_off();
         }
@@ -187,7 +257,11 @@ impl Slots {
 
     /// Breaks the first of the streams that have taken nothing for too long.
     pub(crate) fn break_stuck(&mut self, now: Duration) {
-        break_first(self.streams.as_mut_slice(), now);
+        for slot in 0..self.streams.len() {
+            if is_stuck_at(&self.streams[slot], now) {
+                return self.break_off(slot);
+            }
+        }
     }
 
     /// Reads from the stream of a slot, if there is one, within its share.
@@ -198,6 +272,7 @@ impl Slots {
         if slot >= self.streams.len() {
             return None;
         }
+        self.cover(slot);
         read_at(&mut self.streams[slot], buffer, self.round)
     }
 
@@ -221,17 +296,16 @@ impl Slots {
         if slot >= self.streams.len() {
             return None;
         }
+        self.cover(slot);
         write_at(&mut self.streams[slot], bytes, self.round, now)
     }
 }
 
-fn break_first(streams: &mut [Option<Stream>], now: Duration)
-    ensures { length streams.new ≡ length streams.old }
-{
-    for stream in streams.iter_mut().flatten() {
-        if stream.is_stuck(now) {
-            return stream.break_off();
-        }
+/// Whether there is a stream that has taken nothing for too long.
+fn is_stuck_at(place: &Option<Stream>, now: Duration) -> bool {
+    match place {
+        Some(stream) => stream.is_stuck(now),
+        None => false,
     }
 }
 
@@ -279,11 +353,4 @@ pub(crate) fn is_ready_at(place: &Option<Stream>) -> bool
         Some(stream) => stream.is_ready(),
         None => false,
     }
-}
-
-/// Whether a stream has an event for its next turn.
-fn is_some_turn_next(streams: &[Option<Stream>]) -> bool
-    ensures { result ≡ list_any has_turn_next streams.now }
-{
-    streams.iter().any(|place| is_ready_at(place))
 }

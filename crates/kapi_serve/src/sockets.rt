@@ -334,6 +334,10 @@ impl<C: Clock + Drop> Ports for Sockets<C> {
         Ok(())
     }
 
+    fn user(&self, slot: usize) -> usize {
+        self.slots.listener(slot)
+    }
+
     fn end(&mut self, slot: usize)
         ensures freed { slot < vec_len self.old.slots.streams → HoldsAt (λ place. place ≡ None) self.new.slots.streams.items slot }
     {
