@@ -65,6 +65,10 @@ FILES = {
     "owned": role("ClusterRole", "owner", "*", "configmaps") + binding("ClusterRoleBinding", "owners", "ClusterRole owner", "User ann")
     + role("ClusterRole", "scopes", "impersonate", "userextras/scopes", group="authentication.k8s.io")
     + binding("ClusterRoleBinding", "scoped", "ClusterRole scopes", "User bob"),
+    "wide": item("ClusterRole", "wide", rules=[rule("get", "pods")] * 301) + binding("ClusterRoleBinding", "wide", "ClusterRole wide", "User bob"),
+    "kept": item("Namespace", "shop") + "".join(role("ClusterRole", it, "get", it) for it in ("nodes", "namespaces"))
+    + "".join(binding("RoleBinding", f"shop/{it}", f"ClusterRole {it}", "User bob") for it in ("nodes", "namespaces"))
+    + role("ClusterRole", "binder", "bind", "clusterroles", group="rbac.authorization.k8s.io") + binding("RoleBinding", "shop/binds", "ClusterRole binder", "User ann"),
     "homeless": ACTORS, "more": ACTORS + binding("RoleBinding", "others", "Role actor", "User eve"),
     "twice": "".join(role("Role", f"{it}/actor", "impersonate", "users") + binding("RoleBinding", f"{it}/actors", "Role actor", "User bob") for it in ("shop", "web"))
     + binding("RoleBinding", "shop/again", "Role actor", "User ann", "User bob") + binding("RoleBinding", "web/more", "Role actor", "User bob"),
@@ -166,6 +170,9 @@ CASES = [
     *[case(f"who homeless impersonate users --namespace {it}", ways(BOB.format(it))) for it in ("shop", "web")],
     *[case(f"who named get pods --namespace shop {it}", ways(*[ANN] * (it == "--name a"))) for it in ("", "--name a", "--name b")],
     case("who before --questions asked", f"line 1: list pods shop\n{ways()}line 2: get pods shop\n{ways(ANN)}"),
+    *[case(f"who kept {it}", ways()) for it in ("get nodes", "get no", "get nodes/proxy --cluster", "create clusterrole")],
+    *[case(f"who kept get {it}", ways(f"User bob | shop | RoleBinding {of} | ClusterRole {of}, rule 0")) for it, of in (("nodes --namespace shop", "nodes"), ("namespaces", "namespaces"), ("ns", "namespaces"))],
+    case("who kept bind clusterrole", ways("User ann | shop | RoleBinding binds | ClusterRole binder, rule 0")),
     *[case(f"who doubtful --questions others {it}", f"line 1: get nodes *\n{ways(*SEES)}", it == "--strict") for it in ("", "--strict")],
     case("who before --questions /dev/stdin --json", f'{{"line":1}}\n{JSON}{{{BY}', given="get pods shop"),
     case("who - get pods --namespace shop", ways(ANN), given=BEFORE.rstrip()),
@@ -182,6 +189,7 @@ CASES = [
     case("check doubtful", found("doubtful:7 | RoleBinding shop/viewers: ClusterRole view is not in the policy: it gives nothing"), 3),
     case("check doubtful --format markdown", "| WHERE | FINDING |\n|---|---|\n| doubtful\\:7 | RoleBinding shop/viewers\\: ClusterRole view is not in the policy\\: it gives nothing |\n", 3),
     case("check dangling", DANGLING, 3),
+    case("check wide", found("wide:1 | ClusterRole wide: over 300 rules: whether one covers another was not looked at"), 3),
     case("check --json doubtful", '{"file":"doubtful","finding":"RoleBinding shop/viewers: ClusterRole view is not in the policy: it gives nothing","line":7}\n', 3),
     case("suggest questions", SUGGESTED), case("suggest --policy after questions", SUGGESTED_AFTER),
     case("suggest --log logged", LOGGED), case("suggest before", "", 1),

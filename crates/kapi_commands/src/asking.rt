@@ -4,6 +4,7 @@ use crate::policies::{
     Answered, Compared, FilesFault, compare_files, paths_file, risks_file, what_file, who_file,
     who_wanted,
 };
+use crate::served::has_no_namespace;
 use kapi_access::{Form, Holder, Identities, Scope, Shown, question_of, with_default_groups};
 use kapi_command_line::{
     Asking, CompareWords, PathsWords, WhatWords, WhoQuestion, WhoWanted, WhoWords,
@@ -162,14 +163,17 @@ fn ask_words<R: AllocGlobal>(
     } else {
         Scope::Namespace(Text::copy_of(rt.alloc(), namespace)?)
     };
-    let wanted = question_of(
+    let mut asked = question_of(
         rt.alloc(),
         wanted.verb.as_str(),
         wanted.resource.as_str(),
         scope,
         wanted.name.as_str(),
     )?;
-    who_wanted(rt.alloc(), form, objects, &wanted)
+    if namespace.is_empty() && has_no_namespace(&asked.point) {
+        asked.scope = Scope::Cluster;
+    }
+    who_wanted(rt.alloc(), form, objects, &asked)
 }
 
 /// Prints an answer about a policy and reports the doubts about it and about the questions: status 0, 4 if the roles

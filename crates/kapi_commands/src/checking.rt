@@ -2,6 +2,7 @@
 use crate::asking::{doubts_of, tell_unsettled};
 use crate::policies::{FilesFault, load_first};
 use crate::rows::finding_row;
+use crate::served::is_served;
 use kapi_access::{absent_accounts, bound_places, covered_rules, dangles};
 use kapi_command_line::Asking;
 use kapi_files::{Ending, ReadPolicy, place_of, print, read_kinds, read_policy, tell_refused};
@@ -291,6 +292,9 @@ fn look_at_role(
     Ok(())
 }
 
+/// The number of rules up to which each rule of a role is compared with each other one.
+const MOST_COMPARED: usize = 300;
+
 /// Notes the rules of a role that another rule of it covers.
 fn look_for_covered(
     alloc: Global,
@@ -299,6 +303,13 @@ fn look_for_covered(
     origin: Origin,
     found: &mut Vec<Finding>,
 ) -> Result<(), Memory> {
+    if rules.len() > MOST_COMPARED {
+        let text = format!(in alloc;
+            "{words}: over 300 rules: whether one covers another was not looked at"
+        )?;
+        found.push(Finding { origin, text })?;
+        return Ok(());
+    }
     for covered in covered_rules(alloc, rules)?.iter() {
         let rule = covered.rule;
         let by = covered.by;
@@ -328,79 +339,6 @@ fn look_at_resources(
         }
     }
     Ok(())
-}
-
-/// The resources of Kubernetes 1.33, by group, as `kubectl api-resources` lists them.
-const SERVED: [(&str, &str); 18] = [
-    (
-        "",
-        "bindings componentstatuses configmaps endpoints events limitranges namespaces nodes persistentvolumeclaims persistentvolumes pods podtemplates replicationcontrollers resourcequotas secrets serviceaccounts services users groups",
-    ),
-    (
-        "admissionregistration.k8s.io",
-        "mutatingwebhookconfigurations validatingadmissionpolicies validatingadmissionpolicybindings validatingwebhookconfigurations",
-    ),
-    ("apiextensions.k8s.io", "customresourcedefinitions"),
-    ("apiregistration.k8s.io", "apiservices"),
-    (
-        "apps",
-        "controllerrevisions daemonsets deployments replicasets statefulsets",
-    ),
-    (
-        "authentication.k8s.io",
-        "selfsubjectreviews tokenreviews uids userextras",
-    ),
-    (
-        "authorization.k8s.io",
-        "localsubjectaccessreviews selfsubjectaccessreviews selfsubjectrulesreviews subjectaccessreviews",
-    ),
-    ("autoscaling", "horizontalpodautoscalers"),
-    ("batch", "cronjobs jobs"),
-    ("certificates.k8s.io", "certificatesigningrequests signers"),
-    ("coordination.k8s.io", "leases"),
-    ("discovery.k8s.io", "endpointslices"),
-    ("events.k8s.io", "events"),
-    (
-        "flowcontrol.apiserver.k8s.io",
-        "flowschemas prioritylevelconfigurations",
-    ),
-    (
-        "networking.k8s.io",
-        "ingressclasses ingresses ipaddresses networkpolicies servicecidrs",
-    ),
-    ("policy", "poddisruptionbudgets podsecuritypolicies"),
-    (
-        "rbac.authorization.k8s.io",
-        "clusterrolebindings clusterroles rolebindings roles",
-    ),
-    (
-        "storage.k8s.io",
-        "csidrivers csinodes csistoragecapacities storageclasses volumeattachments",
-    ),
-];
-
-/// Whether some group of the rule may have the resource: `*` may have any, and so may groups of which no kind is known.
-fn is_served(table: &[ResourceRow], rule: &PolicyRule, resource: &str) -> bool {
-    let whole = match resource.split_once('/') {
-        Some((whole, _subresource)) => whole,
-        None => resource,
-    };
-    whole == "*"
-        || rule
-            .api_groups
-            .as_slice()
-            .iter()
-            .any(|group| has_resource(table, group.as_str(), whole))
-}
-
-fn has_resource(table: &[ResourceRow], group: &str, resource: &str) -> bool {
-    let of_kubernetes = SERVED.iter().find(|served| served.0 == group);
-    let is_added = table.iter().any(|row| row.group.as_str() == group
-        && row.plural.as_str() == resource);
-    match of_kubernetes {
-        Some(served) => is_added || served.1.split(' ').any(|known| known == resource),
-        None => is_added || !table.iter().any(|row| row.group.as_str() == group),
-    }
 }
 
 // ---- names

@@ -8,6 +8,7 @@ mod doubts;
 mod logging;
 mod policies;
 mod rows;
+mod served;
 mod suggesting;
 
 pub use asking::{doubts_of, run_compare, run_paths, run_risks, run_what, run_who, tell_unsettled};
