@@ -11,7 +11,7 @@
 
 #include "kapi.h"
 
-enum { FIELDS = 9, GROUPS = 16 };
+enum { FIELDS = 9 };
 
 static char *read_file(const char *name, size_t *length) {
     FILE *from = fopen(name, "rb");
@@ -47,16 +47,18 @@ static kapi_text until(char **at, char byte) {
 }
 
 static kapi_texts groups_of(kapi_text listed) {
-    kapi_texts made = {NULL, 0};
-    kapi_text *groups = listed.length == 0 ? NULL : calloc(GROUPS, sizeof *groups);
     const char *at = listed.bytes, *end = listed.bytes + listed.length;
-    for (; groups != NULL && at < end && made.length < GROUPS; made.length++) {
+    size_t most = 1;
+    for (const char *byte = at; byte < end; byte++) most += *byte == ',';
+    kapi_text *groups = calloc(most, sizeof *groups);
+    if (groups == NULL) exit(2);
+    kapi_texts made = {groups, 0};
+    while (at < end) {
         const char *comma = memchr(at, ',', (size_t)(end - at));
         const char *stop = comma == NULL ? end : comma;
-        groups[made.length] = (kapi_text){at, (size_t)(stop - at)};
+        groups[made.length++] = (kapi_text){at, (size_t)(stop - at)};
         at = stop + 1;
     }
-    made.texts = groups;
     return made;
 }
 

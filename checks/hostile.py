@@ -2,9 +2,9 @@
 
 usage: python3 -m checks PROGRAM hostile [ATTACK..]     all attacks if none is named
 
-Without any right: greedy flood silent stalled idle spin line readers trees. With the right to read: list selected selector window. To
-create roles: memory missing rules bound_again. To create cluster roles: labels. To create reviews: groups many repeats. To write
-bindings: subjects.
+Without any right: greedy flood silent stalled idle spin line readers trees asked. With the right to read: list unread selected selector
+window. To create roles: memory missing rules bound_again. To create cluster roles: labels unions. To create reviews: groups many repeats
+own_rules. To write bindings: subjects.
 Each attack starts a server of its own on free ports, is bounded in count and time, and gives figures: what, how much, and at most how much.
 """
 import contextlib
@@ -39,6 +39,8 @@ IDLE_CLIENTS, LET_IN, LISTED, WIDE, CHECKED, LABELLED = 320, 100, 100_000, 56, 1
 MANY, MANY_SECONDS, JUNK = 50, 15, [{"": 0}] * (1_000_000 // 7)
 QUIET, REMOVED = 100, 1_024
 RULES = 300
+UNREAD, UNREAD_OBJECTS = 250, 10_000
+ASKED = 4_000
 SELECTED, SUBJECTS = 5_000, 32_000
 
 
@@ -260,7 +262,7 @@ def subjects(program):
     with Server(program, objects=grant("Role", "create update", "rolebindings", RBAC)) as server:
         client = connect(ports.ANN)
         cost(server, client, "POST", BINDINGS_IN, first)
-        return (f"seconds of processor time for {SUBJECTS:,}", cost(server, client, "PUT", f"{BINDINGS_IN}/many", second), 1),
+        return (f"seconds of processor time for {SUBJECTS:,}", cost(server, client, "PUT", f"{BINDINGS_IN}/many", second), 0.2),
 
 
 def review_of_groups(program, held, asked):
@@ -353,7 +355,7 @@ def many(program):
         alone = 1000 * cost(server, connect(ports.ROOT), "POST", SELF_REVIEWS, review)
         answered = pool.map(attack, [connect(ports.ANN) for _client in range(MANY)])
         told, left = waits(MANY_SECONDS), MANY - sum(answered)
-    return ("root's get, ms at the most", max(told), 500), ("in the median", statistics.median(told), None), ("ms of processor time of one review", alone, None), (f"of {MANY} reviews not answered", left, 0)
+    return ("root's get, ms at the most", max(told), alone), ("in the median", statistics.median(told), None), ("ms of processor time of one review", alone, None), (f"of {MANY} reviews not answered", left, 0)
 
 
 def readers(program):
@@ -373,10 +375,67 @@ def trees(program):
     review = {"spec": {"resourceAttributes": {"verb": "get"}}}
     with Server(program) as server:
         root = connect(ports.ROOT)
-        figures = [(what, cost(server, root, "POST", SELF_REVIEWS, review | more), 0.5) for what, more in (("seconds of processor time", {"x": JUNK}), ("of labels", {"metadata": {"labels": labels}}))]
+        resident = server.resident()
+        figures = [(what, cost(server, root, "POST", SELF_REVIEWS, review | more), 0.03) for what, more in (("seconds of processor time", {"x": JUNK}), ("of labels", {"metadata": {"labels": labels}}))]
+        figures.append(("million bytes more resident", (server.resident() - resident) / 1000, 20))
         for what, place in (("of a patch", MAPS), ("of a patch of a Pod, whose status is kept", PODS)):
             cost(server, root, "POST", place, {"metadata": {"name": "a"}, "x": JUNK})
-            figures.append((what, cost(server, root, "PATCH", f"{place}/a", {"data": {"k": "1"}}), 0.5))
+            resident = server.resident()
+            figures.append((what, cost(server, root, "PATCH", f"{place}/a", {"data": {"k": "1"}}), 0.06))
+            figures.append(("million bytes more resident", (server.resident() - resident) / 1000, 60))
+    return figures
+
+
+def unread(program):
+    """Lists of thousands of objects by many clients of one user, which read nothing for a while, beside root's gets."""
+    with Server(program, objects=maps(UNREAD_OBJECTS, data={"k": "a" * 100}) + grant("Role", "list")) as server:
+        resident, clients = server.resident(), [connect(ports.ANN) for _client in range(UNREAD)]
+        for client in clients:
+            client.sendall(request("GET", MAPS))
+        rest(server)
+        more, told = (server.resident() - resident) / 1000, waits(2)
+        left = UNREAD - sum(whole_answer(client).startswith(b"HTTP/1.1 200 ") for client in clients)
+    return ("million bytes more resident", more, 100), ("root's get, ms at the most", max(told), 100), (f"of {UNREAD} lists not answered when they are read", left, 0)
+
+
+def asked(program):
+    """A question of an identity of thousands of groups to the answer port, beside thousands of bindings of some of them."""
+    names = [f"g{number:05}" for number in range(ASKED)]
+    objects = [thing("ClusterRole", "reader", rules=[rule("get", "pods")])]
+    objects += [thing("ClusterRoleBinding", f"b{number:05}", **bound("ClusterRole reader", f"Group {name}")) for number, name in enumerate(names[:BINDINGS])]
+    with answering(program, objects=objects) as server:
+        client, before = connect(ports.ANSWER), server.precise()
+        client.sendall(compact({"user": "u", "groups": names, "resourceAttributes": {"verb": "list", "resource": "secrets"}}).encode() + b"\n")
+        assert client.recv(64) == b"0 denied\n"
+        return ("seconds of processor time", server.precise() - before, 0.02),
+
+
+def own_rules(program):
+    """A review of the own rules of one who has a role by thousands of bindings."""
+    role, binding = grant("Role", "get")
+    bindings = [binding | {"metadata": {"name": f"b{number:05}", "namespace": "default"}} for number in range(BINDINGS)]
+    more = grant("ClusterRole", "create", "selfsubjectrulesreviews", "authorization.k8s.io")
+    with Server(program, objects=[role, *bindings, *more]) as server:
+        resident = server.resident()
+        used = cost(server, connect(ports.ANN), "POST", REVIEWS.replace("subjectaccess", "selfsubjectrules"), {"spec": {"namespace": "default"}})
+        return ("seconds of processor time", used, 0.1), ("million bytes more resident", (server.resident() - resident) / 1000, None)
+
+
+def unions(program):
+    """Cluster roles that select each other: a write beside thirty, and beside twelve of thousands of rules each."""
+    def member(name, rules):
+        chosen = {"clusterRoleSelectors": [{"matchLabels": {"a": "b"}}]}
+        return thing("ClusterRole", name, aggregationRule=chosen, rules=rules) | {"metadata": {"name": name, "labels": {"a": "b"}}}
+
+    figures = []
+    for what, count, rules in (("thirty", 30, 1), ("twelve of 5,000 rules", 12, 5_000)):
+        made = [member(f"c{number:02}", [rule("get", f"r{number}x{it}") for it in range(rules)]) for number in range(count)]
+        with Server(program, objects=[*made, *grant("ClusterRole", "create", "clusterroles", RBAC)]) as server:
+            rest(server)
+            before = server.precise()
+            cost(server, connect(ports.ANN), "POST", CLUSTER_ROLES, thing("ClusterRole", "last", rules=[]) | {"metadata": {"name": "last", "labels": {"a": "b"}}}, (201,))
+            rest(server)
+            figures.append((f"seconds of processor time of a write beside {what}", server.precise() - before, 0.1))
     return figures
 
 
@@ -451,7 +510,7 @@ def window(program):
     return ("bytes shown to a watch that it does not concern", len(quiet_shown), 0), ("events lost of another watch", 1 - events, 0)
 
 
-ATTACKS = {it.__name__: it for it in (greedy, flood, silent, stalled, idle, many, spin, line, readers, trees, selected, selector, window, memory, missing, rules, bound_again, labels, groups, repeats, subjects)}
+ATTACKS = {it.__name__: it for it in (greedy, flood, silent, stalled, idle, many, spin, line, readers, trees, unread, asked, own_rules, unions, selected, selector, window, memory, missing, rules, bound_again, labels, groups, repeats, subjects)}
 ATTACKS["list"] = long_list
 
 
