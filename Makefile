@@ -8,7 +8,7 @@ TRIED = out/try/kapi
 READY = $(if $(filter $(PROVED),$(PROGRAM)),kapi)
 NEEDS_RT = @command -v rt > /dev/null || { echo 'rt, the Rattle toolchain, is not on the PATH.' >&2; exit 1; }
 
-.PHONY: help demo serve-demo quick test kapi install library serve checks bench kubectl-demo controller-demo cluster-demo edits proofs-page definitions profile
+.PHONY: help demo serve-demo quick test kapi install release library serve checks bench kubectl-demo controller-demo cluster-demo edits proofs-page definitions profile
 
 help: ## try: lists the targets
 	@for group in try use change; do echo "To $$group:"; sed -n "s/^\([a-z-]*\):.*## $$group: /\1 /p" Makefile | while read -r name what; do printf '  make %-16s%s\n' "$$name" "$$what"; done; done
@@ -42,6 +42,9 @@ kapi: ## use: says where the proved program lies; without one, the gate
 install: kapi ## use: the proved program, and kapi-yaml, to PREFIX/bin; proves it first (make test)
 	@install -D $(PROVED) $(PREFIX)/bin/kapi
 	@install -D tools/policy.py $(PREFIX)/bin/kapi-yaml
+
+release: kapi ## use: an archive and a Debian package of the proved program, in out/release
+	@sh tools/release.sh
 
 library: kapi ## use: installs the proved C library to PREFIX (docs/LIBRARY.md)
 	@sh tools/library.sh $(PREFIX)
