@@ -405,8 +405,8 @@ def asked(program):
     objects += [thing("ClusterRoleBinding", f"b{number:05}", **bound("ClusterRole reader", f"Group {name}")) for number, name in enumerate(names[:BINDINGS])]
     with answering(program, objects=objects) as server:
         client, before = connect(ports.ANSWER), server.precise()
-        client.sendall(compact({"user": "u", "groups": names, "resourceAttributes": {"verb": "list", "resource": "secrets"}}).encode() + b"\n")
-        assert client.recv(64) == b"0 denied\n"
+        client.sendall(compact({"user": "u", "groups": names[::-1], "resourceAttributes": {"verb": "list", "resource": "secrets"}}).encode() + b"\n")
+        assert client.recv(64).endswith(b" denied\n")
         return ("seconds of processor time", server.precise() - before, 0.02),
 
 
@@ -428,7 +428,7 @@ def unions(program):
         return thing("ClusterRole", name, aggregationRule=chosen, rules=rules) | {"metadata": {"name": name, "labels": {"a": "b"}}}
 
     figures = []
-    for what, count, rules in (("thirty", 30, 1), ("twelve of 5,000 rules", 12, 5_000)):
+    for what, count, rules in (("thirty", 30, 1), ("twelve of 500 rules", 12, 500)):
         made = [member(f"c{number:02}", [rule("get", f"r{number}x{it}") for it in range(rules)]) for number in range(count)]
         with Server(program, objects=[*made, *grant("ClusterRole", "create", "clusterroles", RBAC)]) as server:
             rest(server)
