@@ -65,7 +65,7 @@ FILES = {
     "owned": role("ClusterRole", "owner", "*", "configmaps") + binding("ClusterRoleBinding", "owners", "ClusterRole owner", "User ann")
     + role("ClusterRole", "scopes", "impersonate", "userextras/scopes", group="authentication.k8s.io")
     + binding("ClusterRoleBinding", "scoped", "ClusterRole scopes", "User bob"),
-    "wide": item("ClusterRole", "wide", rules=[rule("get", "pods")] * 301) + binding("ClusterRoleBinding", "wide", "ClusterRole wide", "User bob"),
+    "long": item("ClusterRole", "wide", rules=[rule("get", "pods")] * 301) + binding("ClusterRoleBinding", "wide", "ClusterRole wide", "User bob"),
     "kept": item("Namespace", "shop") + "".join(role("ClusterRole", it, "get", it) for it in ("nodes", "namespaces"))
     + "".join(binding("RoleBinding", f"shop/{it}", f"ClusterRole {it}", "User bob") for it in ("nodes", "namespaces"))
     + role("ClusterRole", "binder", "bind", "clusterroles", group="rbac.authorization.k8s.io") + binding("RoleBinding", "shop/binds", "ClusterRole binder", "User ann"),
@@ -189,7 +189,7 @@ CASES = [
     case("check doubtful", found("doubtful:7 | RoleBinding shop/viewers: ClusterRole view is not in the policy: it gives nothing"), 3),
     case("check doubtful --format markdown", "| WHERE | FINDING |\n|---|---|\n| doubtful\\:7 | RoleBinding shop/viewers\\: ClusterRole view is not in the policy\\: it gives nothing |\n", 3),
     case("check dangling", DANGLING, 3),
-    case("check wide", found("wide:1 | ClusterRole wide: over 300 rules: whether one covers another was not looked at"), 3),
+    case("check long", found("long:1 | ClusterRole wide: over 300 rules: whether one covers another was not looked at"), 3),
     case("check --json doubtful", '{"file":"doubtful","finding":"RoleBinding shop/viewers: ClusterRole view is not in the policy: it gives nothing","line":7}\n', 3),
     case("suggest questions", SUGGESTED), case("suggest --policy after questions", SUGGESTED_AFTER),
     case("suggest --log logged", LOGGED), case("suggest before", "", 1),
